@@ -9,7 +9,8 @@ use Rattle.std.specs.Options.{mapped}
 use Rattle.std.specs.shelf.Text.{sameBytes}
 use Rattle.std.specs.declared.option.Option.{Option}
 use Rattle.std.specs.declared.option.Option.the-variants.{Some, None}
-use Rattle.sheet_format.specs.Digits.{allHexDigits, decimalOf}
+use Rattle.hex.specs.Hex.{allHexDigits}
+use Rattle.sheet_format.specs.Digits.{decimalOf}
 use Rattle.sheet_format.specs.declared.CipherKind.{CipherKind}
 use Rattle.sheet_format.specs.declared.CipherKind.the-variants.{Kuznyechik, Magma}
 use Rattle.sheet_format.specs.declared.Decimal.{Decimal}

@@ -11,7 +11,7 @@ use Rattle.std.specs.declared.option.Option.{Option}
 use Rattle.std.specs.declared.option.Option.the-variants.{Some, None}
 use Rattle.std.specs.declared.result.Result.{Result}
 use Rattle.std.specs.declared.result.Result.the-variants.{Ok, Err}
-use Rattle.sheet_format.specs.Digits.{hexBytes}
+use Rattle.hex.specs.Hex.{hexBytes}
 use Rattle.sheet_format.specs.Lines.{Body, Form, blank, comment, cipher, body, Line, linesOf}
 use Rattle.sheet_format.specs.Sizes.{blockLength, startDigits, blocksOf}
 use Rattle.sheet_format.specs.declared.Checked.{Checked}
