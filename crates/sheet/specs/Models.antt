@@ -1,6 +1,8 @@
 -- What the reader's values mean: the same with the bytes in place of the parts of the sheet.
 use Prim.Native.Nat.{ℕ, _+_}
-use mathlib.Core.List.{List, [], _∷_}
+use mathlib.Core.List.{List, [], _∷_, _++_}
+use mathlib.Core.Logic.{_⊎_}
+use mathlib.Core.Path.{_≡_}
 use denote.Ref.{RefT}
 use Rattle.std.specs.Options.{mapped}
 use Rattle.std.specs.declared.option.Option.{Option}
@@ -11,6 +13,7 @@ use Rattle.sheet_format.specs.Lines as format
 use Rattle.sheet_format.specs.Lines.{Form, blank, comment, cipher, body}
 use Rattle.sheet_format.specs.declared.SheetFault.{SheetFault}
 use Rattle.sheet_format.specs.declared.SheetFault.the-variants.{NoForm}
+use Rattle.sheet_laws.specs.Grammar.{HasForm, Lacks}
 use Rattle.sheet.specs.declared.line.BodyLine.{BodyLine}
 use Rattle.sheet.specs.declared.line.Line.{Line}
 use Rattle.sheet.specs.declared.line.LineKind.{LineKind}
@@ -53,3 +56,11 @@ tailOf (l ∷ ls) = ls
 abbrev pub stepOf : ℕ → List format.Line → ℕ
 stepOf k [] = k
 stepOf k (l ∷ ls) = k + 1
+
+-- What one call of the reader takes of the bytes that are left. A line that has a form is, with the START and NAME that are
+-- handed out, the text of that form; the byte 10 that ends it is taken too.
+abbrev pub TakenLine : List ℕ → List ℕ → Option (Result Line SheetFault) → Type 0
+TakenLine before after None = (before ≡ []) × (after ≡ [])
+TakenLine before after (Some (Ok l)) = (text : List ℕ) × (before ≡ text ++ 10 ∷ after) × HasForm text (formModel (l .kind))
+TakenLine before after (Some (Err f)) =
+    (text : List ℕ) × Lacks 10 text × ((before ≡ text ++ 10 ∷ after) ⊎ ((before ≡ text) × (after ≡ [])))

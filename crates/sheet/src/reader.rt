@@ -3,7 +3,7 @@ ghost use mathlib.Core.Path.{_≡_};
 ghost use Prim.Native.Nat.{ℕ, _+_, _<_, _^_};
 ghost use lib.ListN.{length};
 ghost use Rattle.sheet_format.specs.Lines.{linesOf};
-ghost use Rattle.sheet.specs.Models.{nextOf, readModel, stepOf, tailOf};
+ghost use Rattle.sheet.specs.Models.{TakenLine, nextOf, readModel, stepOf, tailOf};
 use super::fields::cut;
 use super::line::Line;
 use super::line::read_line;
@@ -36,6 +36,7 @@ impl<'a> Lines<'a> {
     // The next line; a fault where it has no form, or no byte 10 at its end; `None` after the last.
     pub fn next_line(&mut self) -> Option<Result<Line<'a>, SheetFault>>
         ensures value { λ r. ⌜ readModel r ≡ nextOf (now (self .entry) .number) (linesOf (now (self .entry) .rest .now)) ⌝ }
+        ensures parts { λ r. ⌜ TakenLine (now (self .entry) .rest .now) (now (self .exit) .rest .now) r ⌝ }
         ensures rest { λ _. ⌜ linesOf (now (self .exit) .rest .now) ≡ tailOf (linesOf (now (self .entry) .rest .now)) ⌝ }
         ensures number { λ _. ⌜ now (self .exit) .number ≡ stepOf (now (self .entry) .number) (linesOf (now (self .entry) .rest .now)) ⌝ }
     {
