@@ -2,3 +2,6 @@ pub mod Cuts
 pub mod Rows
 pub mod Slots
 pub mod Searches
+pub mod Steps
+pub mod Cleared
+pub mod Walk

@@ -13,7 +13,8 @@ use Rattle.std.specs.declared.option.Option.{Option}
 use Rattle.std.specs.declared.option.Option.the-variants.{Some, None}
 use Rattle.sheet_format.specs.Lines.{Row, ended, unended, onFirst, rowsOf, grown, cutOf, lineOf, formOf, linesOf}
 use Rattle.sheet_laws.specs.Grammar.{Lacks}
-use Rattle.sheet_laws.proofs.Cuts.{clash, cut-found}
+use Rattle.sheet_laws.proofs.Clash.{clash}
+use Rattle.sheet_laws.proofs.Cuts.{cut-found}
 use Rattle.sheet_laws.proofs.Rows.{first-row}
 
 pub lines-at-cut : (xs w r : List ℕ) → cutOf 10 xs ≡ Some (w, r)

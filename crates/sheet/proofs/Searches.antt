@@ -17,7 +17,7 @@ use Rattle.sheet_format.specs.Lines.{Body}
 use Rattle.sheet_format.specs.Orders.{hasCtrStart, hasName, isCtr}
 use Rattle.sheet_format.specs.declared.Mode.{Mode}
 use Rattle.sheet_format.specs.declared.Mode.the-variants.{Ctr, Cbc}
-use Rattle.sheet_laws.proofs.Cuts.{clash}
+use Rattle.sheet_laws.proofs.Clash.{clash}
 use Rattle.sheet.specs.Kept.{slotAt, nameKept, startKept, inCtr, ctrStart, Keeps}
 use Rattle.sheet.proofs.Slots.{slot-written, slot-left}
 

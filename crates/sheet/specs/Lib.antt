@@ -1,2 +1,4 @@
 pub mod Models
 pub mod Kept
+pub mod Progress
+pub mod Checking

@@ -12,6 +12,7 @@ use sheet_format::SheetFault;
 const NEWLINE: u8 = 10;
 
 // The lines of a sheet that are left, and how many were read.
+#[derive(Drop)]
 pub struct Lines<'a> {
     rest: &'a [u8],
     number: usize,

@@ -90,9 +90,9 @@ bodyFrom m st n nm = record { mode = m; start = st; len = n; name = nm }
 abbrev pub fieldsOf : List ℕ → Option Body
 fieldsOf xs =
     bind (cutOf 32 xs) (λ p. bind (modeOf (p .0)) (λ m.
-      bind (cutOf 32 (p .1)) (λ q. given (isStart (q .0)) (
-        bind (cutOf 32 (q .1)) (λ t. bind (decimalOf (t .0)) (λ n.
-          given (isName (t .1)) (Some (bodyFrom m (q .0) n (t .1)))))))))
+    bind (cutOf 32 (p .1)) (λ q. given (isStart (q .0)) (
+    bind (cutOf 32 (q .1)) (λ t. bind (decimalOf (t .0)) (λ n.
+    given (isName (t .1)) (Some (bodyFrom m (q .0) n (t .1)))))))))
 
 -- what follows a body line's letter
 abbrev pub bodyOf : List ℕ → Option Body

@@ -141,7 +141,7 @@ startTaken earlier l = ofBody l (λ b. isCtr (b .mode) && hasCtrStart (b .start)
 abbrev pub tooManyBlocks : List Line → Line → Bool
 tooManyBlocks earlier l =
     ofBody l (λ b. ofFirst (ciphersIn earlier) (λ c.
-      ltb 1000000 (totalBlocks (blockLength c) (map ordered (bodiesIn earlier ++ b ∷ [])))))
+    ltb 1000000 (totalBlocks (blockLength c) (map ordered (bodiesIn earlier ++ b ∷ [])))))
 
 -- the first of them that a line meets, in the order of their numbers; k is the line's number
 abbrev pub lineFault : ℕ → List Line → Line → Option SheetFault

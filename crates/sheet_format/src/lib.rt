@@ -131,6 +131,10 @@ impl SheetFault {
             SheetFault::TooManyBlocks { line } => (9, line),
             SheetFault::ShortWorkArea => (10, 0),
         };
-        FaultCode { layer: 2, number, place }
+        FaultCode {
+            layer: 2,
+            number,
+            place,
+        }
     }
 }

@@ -4,7 +4,6 @@ use mathlib.Core.Path.{_≡_, refl, sym, ap, ap₂, _∙_, subst}
 use mathlib.Core.Bool.{Bool, true, false}
 use mathlib.Core.Logic.{⊎-elim}
 use mathlib.Core.List.{List, [], _∷_, _++_}
-use native.Mathlib.Omega.{arith}
 use lib.Dec.{eqb}
 use Rattle.std.proofs.shelf.Elements.{all-weaker}
 use Rattle.std.proofs.shelf.Tests.{cases-bool, eqb-true, eqb-false, eq-eqb, ne-eqb, both-ways}
@@ -13,10 +12,7 @@ use Rattle.std.specs.declared.option.Option.{Option}
 use Rattle.std.specs.declared.option.Option.the-variants.{Some, None}
 use Rattle.sheet_format.specs.Lines.{grown, cutOf}
 use Rattle.sheet_laws.specs.Grammar.{Lacks}
-
--- for a case that cannot be: `clash (cc)`, where two constructors would be equal
-pub clash : {P : Type 0} → _≡_ {A = ℕ} 0 1 → P
-clash z = absurd (let f : ⊥ = omega arith in f)
+use Rattle.sheet_laws.proofs.Clash.{clash}
 
 -- where every byte passes a test that `at` fails
 pub lacks-failing : (test : ℕ → Bool) (at : ℕ) → test at ≡ false → (xs : List ℕ) → All (λ x. test x ≡ true) xs → Lacks at xs

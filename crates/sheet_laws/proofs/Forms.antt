@@ -26,7 +26,8 @@ use Rattle.sheet_format.specs.declared.Decimal.{Decimal}
 use Rattle.sheet_format.specs.declared.Mode.{Mode}
 use Rattle.sheet_format.specs.declared.Mode.the-variants.{Ctr, Cbc}
 use Rattle.sheet_laws.specs.Grammar.{cipherWord, modeWord, spaced, Lacks, HasForm, NoFormFits}
-use Rattle.sheet_laws.proofs.Cuts.{clash, lacks-failing, cut-found, cut-made}
+use Rattle.sheet_laws.proofs.Clash.{clash}
+use Rattle.sheet_laws.proofs.Cuts.{lacks-failing, cut-found, cut-made}
 
 -- What a value that was found tells of the steps that found it.
 

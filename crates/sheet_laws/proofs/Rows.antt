@@ -11,7 +11,7 @@ use Rattle.std.specs.shelf.Lists.{All, joined}
 use Rattle.std.specs.declared.option.Option.the-variants.{Some}
 use Rattle.sheet_format.specs.Lines.{Row, ended, unended, onFirst, rowsOf, Form, formOf, lineOf, linesOf}
 use Rattle.sheet_laws.specs.Grammar.{Lacks, HasForm, Written, ReadsWritten, bytesOf, textOf, LastUnended, LinesMakeSheet}
-use Rattle.sheet_laws.proofs.Cuts.{clash}
+use Rattle.sheet_laws.proofs.Clash.{clash}
 use Rattle.sheet_laws.proofs.Forms.{form-found, form-made, form-lacks}
 
 abbrev AllLack : List Row → Type 0

@@ -6,7 +6,6 @@ use mathlib.Core.Path.{_≡_}
 use lib.Chars.{codes}
 use lib.ListN.{length}
 use Rattle.std.specs.shelf.Lists.{All, joined}
-use Rattle.std.specs.declared.option.Option.{Option}
 use Rattle.std.specs.declared.option.Option.the-variants.{Some, None}
 use Rattle.sheet_format.specs.Digits.{decimalOf}
 use Rattle.sheet_format.specs.Lines.{Row, ended, unended, rowsOf, Body, Form, blank, comment, cipher, body, isStart, isName, formOf, linesOf}
@@ -14,6 +13,10 @@ use Rattle.sheet_format.specs.declared.CipherKind.{CipherKind}
 use Rattle.sheet_format.specs.declared.CipherKind.the-variants.{Kuznyechik, Magma}
 use Rattle.sheet_format.specs.declared.Mode.{Mode}
 use Rattle.sheet_format.specs.declared.Mode.the-variants.{Ctr, Cbc}
+
+-- each follows from the other
+abbrev pub Iff : Type 0 → Type 0 → Type 0
+Iff P Q = (P → Q) × (Q → P)
 
 abbrev pub cipherWord : CipherKind → List ℕ
 cipherWord Kuznyechik = codes "kuz"
@@ -51,9 +54,7 @@ Written sheet forms =
 
 -- reading finds the forms of exactly the sheets that are written so
 abbrev pub ReadsWritten : Type 0
-ReadsWritten =
-    (sheet : List ℕ) (forms : List Form)
-    → (linesOf sheet ≡ map (λ f. Some f) forms → Written sheet forms) × (Written sheet forms → linesOf sheet ≡ map (λ f. Some f) forms)
+ReadsWritten = (sheet : List ℕ) (forms : List Form) → Iff (linesOf sheet ≡ map (λ f. Some f) forms) (Written sheet forms)
 
 -- a line's text, and its bytes in the sheet
 abbrev pub textOf : Row → List ℕ
@@ -78,6 +79,4 @@ LinesMakeSheet =
 
 -- a line has no form exactly where none of the forms fits its text
 abbrev pub NoFormFits : Type 0
-NoFormFits =
-    (text : List ℕ) → Lacks 10 text
-    → (formOf text ≡ None → (f : Form) → HasForm text f → ⊥) × (((f : Form) → HasForm text f → ⊥) → formOf text ≡ None)
+NoFormFits = (text : List ℕ) → Lacks 10 text → Iff (formOf text ≡ None) ((f : Form) → HasForm text f → ⊥)
