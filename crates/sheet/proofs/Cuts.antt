@@ -32,7 +32,7 @@ module _ (at i : ℕ) (s : List ℕ) (within : i < length s) (inv : grownBy (tak
       let e = at-drop-more (cutOf at) s i 0 within in
       let f : cutOf at (drop i s) ≡ grown (getD s i 0) (cutOf at (drop (i + 1) s)) = search (needs, e) in
       rw (take-more s i 0 within)
-        (grownBy-more (take i s) (getD s i 0) (cutOf at (drop (i + 1) s)) ∙ ap (grownBy (take i s)) (sym f) ∙ inv)
+      (grownBy-more (take i s) (getD s i 0) (cutOf at (drop (i + 1) s)) ∙ ap (grownBy (take i s)) (sym f) ∙ inv)
 
 pub cut-none : (at i : ℕ) (s : List ℕ) → length s ≤ i → grownBy (take i s) (cutOf at (drop i s)) ≡ cutOf at s → None ≡ cutOf at s
 cut-none at i s h inv = ap (grownBy (take i s)) (sym (at-drop-all (cutOf at) s i h)) ∙ inv

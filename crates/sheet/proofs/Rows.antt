@@ -33,9 +33,9 @@ grown-none x (Some p) e = clash (cc)
 uncut-rest : (x : ℕ) (xs : List ℕ) → cutOf 10 (x ∷ xs) ≡ None → (eqb x 10 ≡ false) × (cutOf 10 xs ≡ None)
 uncut-rest x xs e =
     ⊎-elim
-      (λ (t : eqb x 10 ≡ true). let g : Some ([], xs) ≡ None = rw t at e in clash (cc))
-      (λ (t : eqb x 10 ≡ false). (t, grown-none x (cutOf 10 xs) (rw t at e)))
-      (cases-bool (eqb x 10))
+    (λ (t : eqb x 10 ≡ true). let g : Some ([], xs) ≡ None = rw t at e in clash (cc))
+    (λ (t : eqb x 10 ≡ false). (t, grown-none x (cutOf 10 xs) (rw t at e)))
+    (cases-bool (eqb x 10))
 
 -- with no byte 10 there is one row, and it is not ended
 on-uncut : (x : ℕ) (xs : List ℕ) → cutOf 10 xs ≡ None → onFirst x (rowsOf xs) ≡ unended (x ∷ xs) ∷ []

@@ -34,19 +34,20 @@ module _ (area slot : List ℕ) (bodies : List Body) (b : Body) (count : ℕ) (c
   part-push F G e before i d h =
       let n : length (bodies ++ b ∷ []) ≡ length bodies + 1 = length-push bodies b in
       ⊎-elim
-        (λ (l : i < length bodies).
-          ap F (slot-left area slot count room whole i (omega arith)) ∙ before i d l ∙ ap G (sym (getD-append-left bodies (b ∷ []) d i l)))
-        (λ (l : length bodies ≤ i).
-          let same : i ≡ count = omega arith in
-          ap (λ (k : ℕ). F (slotAt after k)) same ∙ ap F (slot-written area slot count room whole) ∙ e
-          ∙ ap G (sym (getD-push bodies b d i (omega arith))))
-        (cases-lt i (length bodies))
+      (λ (l : i < length bodies).
+      ap F (slot-left area slot count room whole i (omega arith)) ∙ before i d l ∙ ap G (sym (getD-append-left bodies (b ∷ []) d i l)))
+      (λ (l : length bodies ≤ i).
+      let same : i ≡ count = omega arith in
+      ap (λ (k : ℕ). F (slotAt after k)) same ∙ ap F (slot-written area slot count room whole) ∙ e
+      ∙ ap G (sym (getD-push bodies b d i (omega arith))))
+      (cases-lt i (length bodies))
 
   pub keeps-push : nameKept slot ≡ b .name → startKept slot ≡ ctrStart b → Keeps area bodies → Keeps after (bodies ++ b ∷ [])
   keeps-push name start before =
       record {
         names = part-push nameKept (λ b. b .name) name (before .names);
-        starts = part-push startKept ctrStart start (before .starts) }
+        starts = part-push startKept ctrStart start (before .starts);
+      }
 
 anyBody : Body
 anyBody = record { mode = Ctr; start = []; len = record { value = 0; padded = false }; name = [] }
@@ -60,15 +61,15 @@ module _ (F : List ℕ → List ℕ) (G : Body → List ℕ) (area : List ℕ) (
   miss : ((k : ℕ) → k < length bodies → F (slotAt area k) ≡ text → ⊥) → false ≡ test
   miss none =
       ⊎-elim
-        (λ (t : test ≡ true). let p = decides .0 t in absurd (none (p .0) (p .1) (kept (p .0) anyBody (p .1) ∙ p .2 anyBody)))
-        (λ (t : test ≡ false). sym t)
-        (cases-bool test)
+      (λ (t : test ≡ true). let p = decides .0 t in absurd (none (p .0) (p .1) (kept (p .0) anyBody (p .1) ∙ p .2 anyBody)))
+      (λ (t : test ≡ false). sym t)
+      (cases-bool test)
 
 name-decides : (name : List ℕ) (bodies : List Body)
     → Decides (hasName name bodies) ((k : ℕ) × (k < length bodies) × ((d : Body) → (getD bodies k d) .name ≡ name))
 name-decides name bodies =
     decides-by-or (λ b. sameBytes (b .name) name) (λ b. b .name ≡ name) (hasName name) (λ b. sameBytes-decides (b .name) name)
-      refl (λ _ _. refl) bodies
+    refl (λ _ _. refl) bodies
 
 in-ctr : (m : Mode) (start text : List ℕ) → 1 ≤ length text → Decides (isCtr m && sameBytes start text) (inCtr m start ≡ text)
 in-ctr Ctr start text h = sameBytes-decides start text
@@ -78,7 +79,7 @@ start-decides : (text : List ℕ) (bodies : List Body) → 1 ≤ length text
     → Decides (hasCtrStart text bodies) ((k : ℕ) × (k < length bodies) × ((d : Body) → ctrStart (getD bodies k d) ≡ text))
 start-decides text bodies h =
     decides-by-or (λ b. isCtr (b .mode) && sameBytes (b .start) text) (λ b. ctrStart b ≡ text) (hasCtrStart text)
-      (λ b. in-ctr (b .mode) (b .start) text h) refl (λ _ _. refl) bodies
+    (λ b. in-ctr (b .mode) (b .start) text h) refl (λ _ _. refl) bodies
 
 pub name-hit : (area name : List ℕ) (bodies : List Body) (i : ℕ) → Keeps area bodies → i < length bodies
     → nameKept (slotAt area i) ≡ name → true ≡ hasName name bodies

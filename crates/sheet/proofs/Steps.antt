@@ -74,13 +74,13 @@ no-bodies (Some (body b) ∷ ls) e = clash (cc)
 -- a line that is passed over
 module _ (p : Progress) (area : List ℕ) (earlier : List Line) (st : Stands p area earlier) where
   stands-same : (l : Line) → cipherNamed l ≡ [] → bodyNamed l ≡ [] → counts l ≡ false → Stands p area (earlier ++ l ∷ [])
-  stands-same l c b n = 
+  stands-same l c b n =
       let cs : ciphersIn (earlier ++ l ∷ []) ≡ ciphersIn earlier =
-        ciphers-push earlier l ∙ ap (λ (xs : List CipherKind). ciphersIn earlier ++ xs) c ∙ append-nil (ciphersIn earlier) in
+      ciphers-push earlier l ∙ ap (λ (xs : List CipherKind). ciphersIn earlier ++ xs) c ∙ append-nil (ciphersIn earlier) in
       let bs : bodiesIn (earlier ++ l ∷ []) ≡ bodiesIn earlier =
-        bodies-push earlier l ∙ ap (λ (xs : List Body). bodiesIn earlier ++ xs) b ∙ append-nil (bodiesIn earlier) in
+      bodies-push earlier l ∙ ap (λ (xs : List Body). bodiesIn earlier ++ xs) b ∙ append-nil (bodiesIn earlier) in
       let ns : noneCounts (earlier ++ l ∷ []) ≡ noneCounts earlier =
-        counts-push earlier l ∙ ap (λ (t : Bool). noneCounts earlier && not t) n ∙ and-true (noneCounts earlier) in
+      counts-push earlier l ∙ ap (λ (t : Bool). noneCounts earlier && not t) n ∙ and-true (noneCounts earlier) in
       record {
         named = cs ∙ st .named;
         uncounted = ns ∙ st .uncounted;
@@ -88,7 +88,8 @@ module _ (p : Progress) (area : List ℕ) (earlier : List Line) (st : Stands p a
         few = st .few;
         summed = st .summed ∙ sym (ap₂ blocksFor cs bs);
         limited = st .limited;
-        kept = subst (Keeps area) (sym bs) (st .kept) }
+        kept = subst (Keeps area) (sym bs) (st .kept);
+      }
 
   pub stands-blank : Stands p area (earlier ++ Some blank ∷ [])
   stands-blank = stands-same (Some blank) refl refl refl
@@ -103,9 +104,9 @@ module _ (p : Progress) (area : List ℕ) (earlier : List Line) (st : Stands p a
       let none : ciphersIn earlier ≡ [] = st .named ∙ ap listOf e in
       let nobody : bodiesIn earlier ≡ [] = no-bodies earlier (st .uncounted ∙ ap (λ (o : Option CipherKind). not (isSome o)) e) in
       let cs : ciphersIn (earlier ++ Some (cipher c) ∷ []) ≡ c ∷ [] =
-        ciphers-push earlier (Some (cipher c)) ∙ ap (λ (xs : List CipherKind). xs ++ c ∷ []) none in
+      ciphers-push earlier (Some (cipher c)) ∙ ap (λ (xs : List CipherKind). xs ++ c ∷ []) none in
       let bs : bodiesIn (earlier ++ Some (cipher c) ∷ []) ≡ [] =
-        bodies-push earlier (Some (cipher c)) ∙ append-nil (bodiesIn earlier) ∙ nobody in
+      bodies-push earlier (Some (cipher c)) ∙ append-nil (bodiesIn earlier) ∙ nobody in
       record {
         named = cs;
         uncounted = counts-push earlier (Some (cipher c)) ∙ and-false (noneCounts earlier);
@@ -113,7 +114,8 @@ module _ (p : Progress) (area : List ℕ) (earlier : List Line) (st : Stands p a
         few = st .few;
         summed = st .summed ∙ ap₂ blocksFor none nobody ∙ sym (ap₂ blocksFor cs bs);
         limited = st .limited;
-        kept = subst (Keeps area) (nobody ∙ sym bs) (st .kept) }
+        kept = subst (Keeps area) (nobody ∙ sym bs) (st .kept);
+      }
 
   -- a body line
   pub stands-body : (b : Body) (left : List ℕ) (total : ℕ) → isSome (p .cipher) ≡ true → p .bodies < 32 → total ≤ 1000000
@@ -121,7 +123,7 @@ module _ (p : Progress) (area : List ℕ) (earlier : List Line) (st : Stands p a
       → Stands (record { cipher = p .cipher; bodies = p .bodies + 1; blocks = total }) left (earlier ++ Some (body b) ∷ [])
   stands-body b left total some room limit sum keeps =
       let cs : ciphersIn (earlier ++ Some (body b) ∷ []) ≡ ciphersIn earlier =
-        ciphers-push earlier (Some (body b)) ∙ append-nil (ciphersIn earlier) in
+      ciphers-push earlier (Some (body b)) ∙ append-nil (ciphersIn earlier) in
       let bs : bodiesIn (earlier ++ Some (body b) ∷ []) ≡ bodiesIn earlier ++ b ∷ [] = bodies-push earlier (Some (body b)) in
       record {
         named = cs ∙ st .named;
@@ -130,7 +132,8 @@ module _ (p : Progress) (area : List ℕ) (earlier : List Line) (st : Stands p a
         few = omega arith;
         summed = sum ∙ sym (ap₂ blocksFor cs bs);
         limited = limit;
-        kept = subst (Keeps left) (sym bs) keeps }
+        kept = subst (Keeps left) (sym bs) keeps;
+      }
 
 -- what an answer to a body line tells of its fault
 pub admitted-ok : (o : Option SheetFault) (x y : ℕ) → Ok y ≡ unless o (Ok x) → (o ≡ None) × (y ≡ x)
@@ -148,7 +151,7 @@ pub answered : (k blocks bodies : ℕ) (c : CipherKind) (cs : List CipherKind) (
 answered k blocks bodies c cs [] h n e = absurd (let f : ⊥ = omega arith in f)
 answered k blocks bodies c cs (b ∷ bs) h n e =
     ap₂ (λ (m t : ℕ). Ok (record { «block_length» = blockLength c; bodies = m; blocks = t }))
-      (n ∙ sym (length-map (b ∷ bs) ordered)) e
+    (n ∙ sym (length-map (b ∷ bs) ordered)) e
 
 -- what is left alone behind one place is left alone behind a later one
 pub drop-later : (n m : ℕ) (xs ys : List ℕ) → n ≤ m → drop n xs ≡ drop n ys → drop m xs ≡ drop m ys
@@ -161,6 +164,6 @@ pub passed-over : (p : Progress) (area : List ℕ) (k : ℕ) (f : Form) → (f �
 passed-over p area k f told =
     let At : Form → Type 0 = λ g. Advanced p area p area k g (Ok tt) in
     ⊎-elim
-      (λ e. subst At (sym e) (record { answer = λ _ _. refl; next = stands-blank p area }))
-      (λ e. subst At (sym e) (record { answer = λ _ _. refl; next = stands-comment p area }))
-      told
+    (λ e. subst At (sym e) (record { answer = λ _ _. refl; next = stands-blank p area }))
+    (λ e. subst At (sym e) (record { answer = λ _ _. refl; next = stands-comment p area }))
+    told

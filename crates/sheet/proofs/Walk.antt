@@ -39,10 +39,11 @@ next-ok earlier (Some h ∷ ls) k m g n e =
     let q : (m, g) ≡ (k + 1, h) = cc in
     let a : m ≡ k + 1 = ap (λ (t : ℕ × Form). t .0) q in
     let b : g ≡ h = ap (λ (t : ℕ × Form). t .1) q in
-    let c : length earlier + 1 ≡ m = ap (λ (i : ℕ). i + 1) (sym n) ∙ sym a in
-    ( ap (λ (i : ℕ). unless (lineFault i earlier (Some h)) (orderFrom (earlier ++ Some h ∷ []) ls)) c
-      ∙ ap (λ (f : Form). unless (lineFault m earlier (Some f)) (orderFrom (earlier ++ Some f ∷ []) ls)) (sym b)
-    , refl )
+    let c : length earlier + 1 ≡ m = ap (λ (i : ℕ). i + 1) (sym n) ∙ sym a in (
+      ap (λ (i : ℕ). unless (lineFault i earlier (Some h)) (orderFrom (earlier ++ Some h ∷ []) ls)) c
+          ∙ ap (λ (f : Form). unless (lineFault m earlier (Some f)) (orderFrom (earlier ++ Some f ∷ []) ls)) (sym b),
+      refl,
+    )
 
 pub next-end : (ls : List format.Line) (k : ℕ) → None ≡ nextOf k ls → ls ≡ []
 next-end [] k e = refl

@@ -14,6 +14,7 @@ const SLOT: usize = 56;
 
 // Where START and NAME begin in a slot; their lengths are its second and its first byte.
 const START: usize = 8;
+
 const NAME: usize = 24;
 
 fn name_kept<'a>(slot: &'a [u8]) -> &'a [u8]

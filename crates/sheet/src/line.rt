@@ -54,7 +54,12 @@ fn read_fields<'a>(text: &'a [u8]) -> Option<BodyLine<'a>>
     if !is_name(name) {
         return None;
     }
-    Some(BodyLine { mode, start, length, name })
+    Some(BodyLine {
+        mode,
+        start,
+        length,
+        name,
+    })
 }
 
 // What follows a body line's letter.

@@ -24,7 +24,9 @@ use sheet_format::ModePartialEq;
 use sheet_format::SheetFault;
 
 const MAX_BODIES: usize = 32;
+
 const MAX_LENGTH: u32 = 1_048_576;
+
 const MAX_BLOCKS: u64 = 1_000_000;
 
 // What the lines so far have said: the cipher, and how many bodies and blocks.
@@ -39,7 +41,11 @@ impl Progress {
     pub fn new() -> Self
         ensures { λ r. ⌜ ((area : List ℕ) → Stands r area []) ⌝ }
     {
-        Progress { cipher: None, bodies: 0, blocks: 0 }
+        Progress {
+            cipher: None,
+            bodies: 0,
+            blocks: 0,
+        }
     }
 
     // The blocks of all bodies together with this one, or the fault for which its line is refused.
@@ -89,7 +95,12 @@ impl Progress {
         Ok(())
     }
 
-    fn take_body(&mut self, body: BodyLine<'_>, line: usize, area: &mut [u8]) -> Result<(), SheetFault>
+    fn take_body(
+        &mut self,
+        body: BodyLine<'_>,
+        line: usize,
+        area: &mut [u8],
+    ) -> Result<(), SheetFault>
         requires area { ⌜ 1792 ≤ length (now area) ⌝ }
         requires reached { ⌜ Reached (now self) (now area) ⌝ }
         requires fits { ⌜ Fits (bodyLine (bodyModel body)) ⌝ }
@@ -129,6 +140,10 @@ impl Progress {
         if self.bodies == 0 {
             return Err(SheetFault::BodyCount { line: lines + 1 });
         }
-        Ok(Checked { block_length: cipher.block_length(), bodies: self.bodies, blocks: self.blocks })
+        Ok(Checked {
+            block_length: cipher.block_length(),
+            bodies: self.bodies,
+            blocks: self.blocks,
+        })
     }
 }

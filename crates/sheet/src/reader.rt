@@ -24,7 +24,10 @@ impl<'a> Lines<'a> {
         ensures rest { λ r. ⌜ r .rest .now ≡ now (sheet .entry) ⌝ }
         ensures number { λ r. ⌜ r .number ≡ 0 ⌝ }
     {
-        Lines { rest: sheet, number: 0 }
+        Lines {
+            rest: sheet,
+            number: 0,
+        }
     }
 
     // How many lines were read.

@@ -24,5 +24,6 @@ returns c =
       answer = c .check-in .ensures .answer ∙ sym (cond-false (ltb (length work) 1792) (Err ShortWorkArea) (mapOk summary (orderOf sheet)) whole);
       law = λ _. subst (CheckLaw sheet) (sym (c .check-in .ensures .answer)) (keeps-the-law sheet);
       work = c .drop-guard .ensures
-        ∙ ap₂ (λ (n : ℕ) (rest : List ℕ). replicate (min 1792 n) 0 ++ rest) same (c .check-in .ensures .rest)
-        ∙ sym (cond-false (ltb (length work) 1792) work (clearedFront work) whole) }
+          ∙ ap₂ (λ (n : ℕ) (rest : List ℕ). replicate (min 1792 n) 0 ++ rest) same (c .check-in .ensures .rest)
+          ∙ sym (cond-false (ltb (length work) 1792) work (clearedFront work) whole);
+    }

@@ -9,5 +9,5 @@ pub returns : need.returns
 returns c =
     let sheet = c .args .sheet .now in
     let e = bytes-passed (lengthFault sheet) (byteFault (badLine 1 sheet)) (c .in-Continue-check-bytes .field-0) (orderFrom [] (linesOf sheet))
-      (c .in-Continue-check-bytes .ensures tt .value) in
+    (c .in-Continue-check-bytes .ensures tt .value) in
     record { answer = c .check-lines .ensures .answer ∙ ap (mapOk summary) (sym e); rest = c .check-lines .ensures .rest }

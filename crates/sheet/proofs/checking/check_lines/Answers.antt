@@ -23,13 +23,14 @@ abbrev seen : Result Line SheetFault → Option (Result (ℕ × format.Form) She
 seen i = Some (resultModel i)
 
 pub loop-line-holds : need.loop-line-holds
-loop-line-holds c =
-    ( []
-    , c .new-progress .ensures (c .args .area .now)
-    , c .new-lines .ensures .number
-    , omega (arith, c .new-lines .ensures .number, ap length (c .new-lines .ensures .rest))
-    , ap (λ (xs : List ℕ). orderFrom [] (linesOf xs)) (c .new-lines .ensures .rest)
-    , refl )
+loop-line-holds c = (
+  [],
+  c .new-progress .ensures (c .args .area .now),
+  c .new-lines .ensures .number,
+  omega (arith, c .new-lines .ensures .number, ap length (c .new-lines .ensures .rest)),
+  ap (λ (xs : List ℕ). orderFrom [] (linesOf xs)) (c .new-lines .ensures .rest),
+  refl,
+)
 
 pub returns-in-Break-line : need.returns-in-Break-line
 returns-in-Break-line c =
@@ -44,13 +45,13 @@ pub take-line-requires : need.take-line-requires
 take-line-requires c κs =
     let inv = c .loop-line .inv in
     let t = taken-line (c .loop-line .lines .rest .now) (c .next-line .last .self .rest .now) (c .in-Some .line) (c .in-Continue-line .field-0)
-      (c .in-Continue-line .was tt) (c .in-Some .ensures tt .parts) in
+    (c .in-Continue-line .was tt) (c .in-Some .ensures tt .parts) in
     record { area = search needs; reached = (inv .0, inv .1); fits = t .0 }
 
 pub loop-line-less : need.loop-line-less
 loop-line-less c =
     let t = taken-line (c .loop-line .lines .rest .now) (c .next-line .last .self .rest .now) (c .in-Some .line) (c .in-Continue-line .field-0)
-      (c .in-Continue-line .was tt) (c .in-Some .ensures tt .parts) in
+    (c .in-Continue-line .was tt) (c .in-Some .ensures tt .parts) in
     t .1
 
 pub loop-line-again : need.loop-line-again
@@ -61,18 +62,19 @@ loop-line-again c =
     let v = ap seen (sym (c .in-Continue-line .was tt)) ∙ c .in-Some .ensures tt .value in
     let e = next-ok (inv .0) (linesOf (c .loop-line .lines .rest .now)) (c .loop-line .lines .number) (l .number) g (inv .2) v in
     let t = taken-line (c .loop-line .lines .rest .now) (c .next-line .last .self .rest .now) (c .in-Some .line) l
-      (c .in-Continue-line .was tt) (c .in-Some .ensures tt .parts) in
+    (c .in-Continue-line .was tt) (c .in-Some .ensures tt .parts) in
     let n = c .in-Some .ensures tt .number ∙ e .1 in
     let o = refused-ok (lineFault (l .number) (inv .0) (Some g)) (c .in-Continue-take-line .field-0)
-      (c .in-Continue-take-line .ensures tt .advanced .answer (inv .0) (inv .1)) in
-    ( inv .0 ++ Some g ∷ []
-    , c .in-Continue-take-line .ensures tt .advanced .next (inv .0) (inv .1)
-    , n ∙ ap (λ (i : ℕ). i + 1) (inv .2) ∙ sym (length-push (inv .0) (Some g))
-    , omega (arith, n, t .1, inv .3)
-    , ap (orderFrom (inv .0 ++ Some g ∷ [])) (c .in-Some .ensures tt .rest)
-      ∙ ap (λ (f : Option SheetFault). unless f (orderFrom (inv .0 ++ Some g ∷ []) (tailOf (linesOf (c .loop-line .lines .rest .now))))) (sym o)
-      ∙ sym (e .0) ∙ inv .4
-    , c .in-Continue-take-line .ensures tt .rest ∙ inv .5 )
+    (c .in-Continue-take-line .ensures tt .advanced .answer (inv .0) (inv .1)) in (
+      inv .0 ++ Some g ∷ [],
+      c .in-Continue-take-line .ensures tt .advanced .next (inv .0) (inv .1),
+      n ∙ ap (λ (i : ℕ). i + 1) (inv .2) ∙ sym (length-push (inv .0) (Some g)),
+      omega (arith, n, t .1, inv .3),
+      ap (orderFrom (inv .0 ++ Some g ∷ [])) (c .in-Some .ensures tt .rest)
+          ∙ ap (λ (f : Option SheetFault). unless f (orderFrom (inv .0 ++ Some g ∷ []) (tailOf (linesOf (c .loop-line .lines .rest .now))))) (sym o)
+          ∙ sym (e .0) ∙ inv .4,
+      c .in-Continue-take-line .ensures tt .rest ∙ inv .5,
+    )
 
 pub returns-in-Break-take-line : need.returns-in-Break-take-line
 returns-in-Break-take-line c =
@@ -84,12 +86,13 @@ returns-in-Break-take-line c =
     let v = ap seen (sym (c .in-Continue-line .was tt)) ∙ c .in-Some .ensures tt .value in
     let e = next-ok (inv .0) (linesOf (c .loop-line .lines .rest .now)) (c .loop-line .lines .number) (l .number) g (inv .2) v in
     let o = refused-err (lineFault (l .number) (inv .0) (Some g)) f
-      (c .in-Break-take-line .ensures tt .advanced .answer (inv .0) (inv .1)) in
+    (c .in-Break-take-line .ensures tt .advanced .answer (inv .0) (inv .1)) in
     let rest = orderFrom (inv .0 ++ Some g ∷ []) (tailOf (linesOf (c .loop-line .lines .rest .now))) in
     record {
       answer = p .1 ∙ ap Err (p .2)
-        ∙ ap (mapOk summary) (ap (λ (f : Option SheetFault). unless f rest) (sym o) ∙ sym (e .0) ∙ inv .4);
-      rest = c .in-Break-take-line .ensures tt .rest ∙ inv .5 }
+          ∙ ap (mapOk summary) (ap (λ (f : Option SheetFault). unless f rest) (sym o) ∙ sym (e .0) ∙ inv .4);
+      rest = c .in-Break-take-line .ensures tt .rest ∙ inv .5;
+    }
 
 pub finish-requires : need.finish-requires
 finish-requires c κs =
@@ -104,6 +107,7 @@ returns c =
     let n = c .count .ensures ∙ c .in-rest .ensures tt .number ∙ ap (stepOf (c .loop-line .lines .number)) e ∙ inv .2 in
     record {
       answer = c .finish .ensures (c .loop-line .area) (inv .0) (inv .1)
-        ∙ ap (mapOk summary)
+          ∙ ap (mapOk summary)
           (ap (λ (k : ℕ). orderAtEnd (k + 1) (ciphersIn (inv .0)) (bodiesIn (inv .0))) n ∙ sym (ap (orderFrom (inv .0)) e) ∙ inv .4);
-      rest = inv .5 }
+      rest = inv .5;
+    }

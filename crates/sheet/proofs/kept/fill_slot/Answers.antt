@@ -13,9 +13,10 @@ returns c =
     let start = c .args .start .now in
     let name = c .args .name .now in
     let put : List ℕ → List ℕ → List ℕ =
-      λ s n. putMid 24 (24 + length name - 24) (putMid 8 (8 + length start - 8) (set (set slot 0 (length name)) 1 (length start)) s) n in
+    λ s n. putMid 24 (24 + length name - 24) (putMid 8 (8 + length start - 8) (set (set slot 0 (length name)) 1 (length start)) s) n in
     record {
       name = ap₂ (λ (s n : List ℕ). nameKept (put s n)) (c .copy-from-slice .ensures .after) (c .copy-from-slice-2 .ensures .after)
-        ∙ name-filled slot start name (c .pre .slot) (c .pre .start) (c .pre .name);
+          ∙ name-filled slot start name (c .pre .slot) (c .pre .start) (c .pre .name);
       start = ap₂ (λ (s n : List ℕ). startKept (put s n)) (c .copy-from-slice .ensures .after) (c .copy-from-slice-2 .ensures .after)
-        ∙ start-filled slot start name (c .pre .slot) (c .pre .start) (c .pre .name) }
+          ∙ start-filled slot start name (c .pre .slot) (c .pre .start) (c .pre .name);
+    }

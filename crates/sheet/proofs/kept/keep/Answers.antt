@@ -16,6 +16,7 @@ returns c =
     let whole : length slot ≡ 56 = search needs in
     record {
       kept = λ bodies counted before.
-        keeps-push area slot bodies (bodyModel (c .args .body)) (c .args .count) counted (c .pre .room) whole
+          keeps-push area slot bodies (bodyModel (c .args .body)) (c .args .count) counted (c .pre .room) whole
           (c .fill-slot .ensures .name) (c .fill-slot .ensures .start ∙ c .ctr-start .ensures) before;
-      rest = drop-putMid at (at + 56 - at) area slot (at + 56) (omega arith) (omega arith) (omega arith) }
+      rest = drop-putMid at (at + 56 - at) area slot (at + 56) (omega arith) (omega arith) (omega arith);
+    }

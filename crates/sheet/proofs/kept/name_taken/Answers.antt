@@ -11,18 +11,18 @@ use Rattle.sheet.proofs.kept.name_taken.Needs as need
 pub returns-then-eq : need.returns-then-eq
 returns-then-eq c =
     λ bodies counted keeps.
-      let d = matches-decides _ _ _ (c .eq .ensures) in
-      name-hit (c .args .area .now) (c .args .name .now) bodies (c .loop-i .i) keeps (omega arith)
-        (ap nameKept (slot-part (c .args .area .now) (c .loop-i .i)) ∙ sym (c .name-kept .ensures) ∙ d .0 (c .if-eq .taken))
+    let d = matches-decides _ _ _ (c .eq .ensures) in
+    name-hit (c .args .area .now) (c .args .name .now) bodies (c .loop-i .i) keeps (omega arith)
+    (ap nameKept (slot-part (c .args .area .now) (c .loop-i .i)) ∙ sym (c .name-kept .ensures) ∙ d .0 (c .if-eq .taken))
 
 pub loop-i-again : need.loop-i-again
 loop-i-again c =
     let d = matches-decides _ _ _ (c .eq .ensures) in
     below-more _ _ (c .loop-i .inv)
-      (λ e. both-ways (c .eq .result) (c .if-eq .left)
-        (d .1 (c .name-kept .ensures ∙ sym (ap nameKept (slot-part (c .args .area .now) (c .loop-i .i))) ∙ e)))
+    (λ e. both-ways (c .eq .result) (c .if-eq .left)
+    (d .1 (c .name-kept .ensures ∙ sym (ap nameKept (slot-part (c .args .area .now) (c .loop-i .i))) ∙ e)))
 
 pub returns : need.returns
 returns c =
     λ bodies counted keeps.
-      name-miss (c .args .area .now) (c .args .name .now) bodies keeps (λ k h. c .loop-i .inv k (omega arith))
+    name-miss (c .args .area .now) (c .args .name .now) bodies keeps (λ k h. c .loop-i .inv k (omega arith))

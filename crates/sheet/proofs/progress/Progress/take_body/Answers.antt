@@ -20,11 +20,13 @@ returns-in-Break-blocks c =
     record {
       advanced = record {
         answer = λ earlier st.
-          p .1 ∙ ap Err (p .2)
-          ∙ sym (ap refusedBy (admitted-err (lineFault (c .args .line) earlier (Some (body b))) (blocksFor (ciphersIn earlier) (bodiesIn earlier ++ b ∷ [])) f
+            p .1 ∙ ap Err (p .2)
+            ∙ sym (ap refusedBy (admitted-err (lineFault (c .args .line) earlier (Some (body b))) (blocksFor (ciphersIn earlier) (bodiesIn earlier ++ b ∷ [])) f
             (c .in-Break-blocks .ensures tt .value earlier st)));
-        next = λ earlier st. made-from-err (c .from-residual .result) _ (c .from-residual .ensures .0) };
-      rest = refl }
+        next = λ earlier st. made-from-err (c .from-residual .result) _ (c .from-residual .ensures .0);
+      };
+      rest = refl;
+    }
 
 pub returns : need.returns
 returns c =
@@ -33,14 +35,16 @@ returns c =
     record {
       advanced = record {
         answer = λ earlier st.
-          let q = admitted-ok (lineFault (c .args .line) earlier (Some (body b))) (blocksFor (ciphersIn earlier) (bodiesIn earlier ++ b ∷ []))
+            let q = admitted-ok (lineFault (c .args .line) earlier (Some (body b))) (blocksFor (ciphersIn earlier) (bodiesIn earlier ++ b ∷ []))
             (c .in-Continue-blocks .blocks) (facts .value earlier st) in
-          sym (ap refusedBy (q .0));
+            sym (ap refusedBy (q .0));
         next = λ earlier st.
-          let q = admitted-ok (lineFault (c .args .line) earlier (Some (body b))) (blocksFor (ciphersIn earlier) (bodiesIn earlier ++ b ∷ []))
+            let q = admitted-ok (lineFault (c .args .line) earlier (Some (body b))) (blocksFor (ciphersIn earlier) (bodiesIn earlier ++ b ∷ []))
             (c .in-Continue-blocks .blocks) (facts .value earlier st) in
-          stands-body (c .args .self .now) (c .args .area .now) earlier st b (c .keep .last .area) (c .in-Continue-blocks .blocks)
-            (facts .cipher) (facts .room) (facts .limit) (q .1) (c .keep .ensures .kept (bodiesIn earlier) (st .many) (st .kept)) };
+            stands-body (c .args .self .now) (c .args .area .now) earlier st b (c .keep .last .area) (c .in-Continue-blocks .blocks)
+            (facts .cipher) (facts .room) (facts .limit) (q .1) (c .keep .ensures .kept (bodiesIn earlier) (st .many) (st .kept));
+      };
       rest =
-        drop-later (56 * c .args .self .now .bodies + 56) 1792 (c .keep .last .area) (c .args .area .now)
-          (omega (arith, facts .room)) (c .keep .ensures .rest) }
+          drop-later (56 * c .args .self .now .bodies + 56) 1792 (c .keep .last .area) (c .args .area .now)
+          (omega (arith, facts .room)) (c .keep .ensures .rest);
+    }

@@ -8,5 +8,6 @@ pub returns-in-Blank : need.returns-in-Blank
 returns-in-Blank c =
     record {
       advanced = passed-over (c .args .self .now) (c .args .area .now) (c .args .line .number) (formModel (c .args .line .kind))
-        (⊎-elim (λ e. inl (ap formModel e)) (λ e. inr (ap formModel e)) (c .in-Blank .is));
-      rest = refl }
+          (⊎-elim (λ e. inl (ap formModel e)) (λ e. inr (ap formModel e)) (c .in-Blank .is));
+      rest = refl;
+    }

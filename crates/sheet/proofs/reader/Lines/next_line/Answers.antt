@@ -22,7 +22,8 @@ returns-then-is-empty c =
       value = ap (nextOf (c .args .self .now .number)) q;
       parts = (e, e);
       rest = sym q ∙ ap tailOf q;
-      number = ap (stepOf (c .args .self .now .number)) q }
+      number = ap (stepOf (c .args .self .now .number)) q;
+    }
 
 pub returns-in-rest : need.returns-in-rest
 returns-in-rest c =
@@ -35,7 +36,8 @@ returns-in-rest c =
       value = ap (nextOf (c .args .self .now .number)) q;
       parts = (all, p .1, inr (search needs, n));
       rest = ap linesOf n ∙ ap tailOf q;
-      number = ap (stepOf (c .args .self .now .number)) q }
+      number = ap (stepOf (c .args .self .now .number)) q;
+    }
 
 pub ghost-self-2 : need.ghost-self-2
 ghost-self-2 c =
@@ -46,22 +48,26 @@ pub returns-in-Some-read-line : need.returns-in-Some-read-line
 returns-in-Some-read-line c =
     let e = lines-at-cut (c .args .self .now .rest .now) (c .in-Some .text .now) (c .in-Some .rest .now) (sym (c .in-Some .ensures tt)) in
     let q : Some (formModel (c .in-Some-read-line .kind)) ∷ linesOf (c .in-Some .rest .now) ≡ linesOf (c .args .self .now .rest .now) =
-      ap (λ (l : Line). l ∷ linesOf (c .in-Some .rest .now)) (c .in-Some-read-line .ensures tt) ∙ sym (e .0) in
+    ap (λ (l : Line). l ∷ linesOf (c .in-Some .rest .now)) (c .in-Some-read-line .ensures tt) ∙ sym (e .0) in
     record {
       value = ap (nextOf (c .args .self .now .number)) q;
-      parts =
-        (c .in-Some .text .now, e .2,
-          form-found (c .in-Some .text .now) (formModel (c .in-Some-read-line .kind)) (e .3) (sym (c .in-Some-read-line .ensures tt)));
+      parts = (
+        c .in-Some .text .now,
+        e .2,
+        form-found (c .in-Some .text .now) (formModel (c .in-Some-read-line .kind)) (e .3) (sym (c .in-Some-read-line .ensures tt)),
+      );
       rest = ap tailOf q;
-      number = ap (stepOf (c .args .self .now .number)) q }
+      number = ap (stepOf (c .args .self .now .number)) q;
+    }
 
 pub returns-in-None : need.returns-in-None
 returns-in-None c =
     let e = lines-at-cut (c .args .self .now .rest .now) (c .in-Some .text .now) (c .in-Some .rest .now) (sym (c .in-Some .ensures tt)) in
     let q : None ∷ linesOf (c .in-Some .rest .now) ≡ linesOf (c .args .self .now .rest .now) =
-      ap (λ (l : Line). l ∷ linesOf (c .in-Some .rest .now)) (c .in-None .ensures tt) ∙ sym (e .0) in
+    ap (λ (l : Line). l ∷ linesOf (c .in-Some .rest .now)) (c .in-None .ensures tt) ∙ sym (e .0) in
     record {
       value = ap (nextOf (c .args .self .now .number)) q;
       parts = (c .in-Some .text .now, e .3, inl (e .2));
       rest = ap tailOf q;
-      number = ap (stepOf (c .args .self .now .number)) q }
+      number = ap (stepOf (c .args .self .now .number)) q;
+    }
