@@ -32,7 +32,8 @@ next-err earlier (Some g ∷ ls) k f n e = clash (cc)
 
 -- a line that has a form
 pub next-ok : (earlier ls : List format.Line) (k m : ℕ) (g : Form) → k ≡ length earlier → Some (Ok (m, g)) ≡ nextOf k ls
-    → (orderFrom earlier ls ≡ unless (lineFault m earlier (Some g)) (orderFrom (earlier ++ Some g ∷ []) (tailOf ls))) × (stepOf k ls ≡ k + 1)
+    → (orderFrom earlier ls ≡ unless (lineFault m earlier (Some g)) (orderFrom (earlier ++ Some g ∷ []) (tailOf ls)))
+    × (stepOf k ls ≡ k + 1) × (m ≡ k + 1)
 next-ok earlier [] k m g n e = clash (cc)
 next-ok earlier (None ∷ ls) k m g n e = clash (cc)
 next-ok earlier (Some h ∷ ls) k m g n e =
@@ -43,6 +44,7 @@ next-ok earlier (Some h ∷ ls) k m g n e =
       ap (λ (i : ℕ). unless (lineFault i earlier (Some h)) (orderFrom (earlier ++ Some h ∷ []) ls)) c
           ∙ ap (λ (f : Form). unless (lineFault m earlier (Some f)) (orderFrom (earlier ++ Some f ∷ []) ls)) (sym b),
       refl,
+      a,
     )
 
 pub next-end : (ls : List format.Line) (k : ℕ) → None ≡ nextOf k ls → ls ≡ []

@@ -61,10 +61,13 @@ fn check_lines(sheet: &[u8], area: &mut [u8]) -> Result<Checked, SheetFault>
 {
     let mut progress = Progress::new();
     let mut lines = Lines::new(sheet);
-    while let Some(line) = lines.next_line() {
-        progress.take_line(line?, area)?;
+    let mut last = 0;
+    while let Some(item) = lines.next_line() {
+        let line = item?;
+        last = line.number;
+        progress.take_line(line, area)?;
     }
-    progress.finish(lines.count())
+    progress.finish(last)
 }
 
 fn check_in(sheet: &[u8], area: &mut [u8]) -> Result<Checked, SheetFault>

@@ -129,16 +129,16 @@ impl Progress {
         }
     }
 
-    // The answer at the end of a sheet of that many lines.
-    pub fn finish(&self, lines: usize) -> Result<Checked, SheetFault>
-        requires { ⌜ lines ≤ 4096 ⌝ }
-        ensures { λ r. ⌜ ((area : List ℕ) (earlier : List FormatLine) → Stands (now (self .entry)) area earlier → r ≡ mapOk summary (orderAtEnd (lines + 1) (ciphersIn earlier) (bodiesIn earlier))) ⌝ }
+    // The answer at the end of a sheet, whose last line has that number.
+    pub fn finish(&self, last: usize) -> Result<Checked, SheetFault>
+        requires { ⌜ last ≤ 4096 ⌝ }
+        ensures { λ r. ⌜ ((area : List ℕ) (earlier : List FormatLine) → Stands (now (self .entry)) area earlier → r ≡ mapOk summary (orderAtEnd (last + 1) (ciphersIn earlier) (bodiesIn earlier))) ⌝ }
     {
         let Some(cipher) = self.cipher else {
-            return Err(SheetFault::MisplacedCipher { line: lines + 1 });
+            return Err(SheetFault::MisplacedCipher { line: last + 1 });
         };
         if self.bodies == 0 {
-            return Err(SheetFault::BodyCount { line: lines + 1 });
+            return Err(SheetFault::BodyCount { line: last + 1 });
         }
         Ok(Checked {
             block_length: cipher.block_length(),

@@ -30,13 +30,6 @@ impl<'a> Lines<'a> {
         }
     }
 
-    // How many lines were read.
-    pub fn count(&self) -> usize
-        ensures { λ r. ⌜ r ≡ now (self .entry) .number ⌝ }
-    {
-        self.number
-    }
-
     // The next line; a fault where it has no form, or no byte 10 at its end; `None` after the last.
     pub fn next_line(&mut self) -> Option<Result<Line<'a>, SheetFault>>
         ensures value { λ r. ⌜ readModel r ≡ nextOf (now (self .entry) .number) (linesOf (now (self .entry) .rest .now)) ⌝ }

@@ -14,7 +14,7 @@ returns c =
     λ area earlier st.
     let cs : ciphersIn earlier ≡ c .in-Some .cipher ∷ [] = search needs in
     let some : 0 < c .args .self .now .bodies = search needs in
-    let e = answered (c .args .lines + 1) (c .args .self .now .blocks) (c .args .self .now .bodies) (c .in-Some .cipher) [] (bodiesIn earlier)
+    let e = answered (c .args .last + 1) (c .args .self .now .blocks) (c .args .self .now .bodies) (c .in-Some .cipher) [] (bodiesIn earlier)
     some (st .many) (st .summed ∙ ap (λ (ks : List CipherKind). blocksFor ks (bodiesIn earlier)) cs) in
     ap (λ (n : ℕ). Ok (record { «block_length» = n; bodies = c .args .self .now .bodies; blocks = c .args .self .now .blocks })) (c .block-length .ensures)
-    ∙ e ∙ ap (λ (ks : List CipherKind). mapOk summary (orderAtEnd (c .args .lines + 1) ks (bodiesIn earlier))) (sym cs)
+    ∙ e ∙ ap (λ (ks : List CipherKind). mapOk summary (orderAtEnd (c .args .last + 1) ks (bodiesIn earlier))) (sym cs)
