@@ -1,7 +1,13 @@
 // Worked examples of the definitions, as theorems: the contract of each function here is a list of them.
+ghost use Rattle.examples.specs.Listings.{ListingExamples};
 ghost use Rattle.examples.specs.Sheets.{SheetExamples};
 
 // Order sheets: lengths and blocks at their limits.
 pub fn sheet_examples_hold()
     ensures { λ _. ⌜ SheetExamples ⌝ }
+{}
+
+// What `list` prints.
+pub fn listing_examples_hold()
+    ensures { λ _. ⌜ ListingExamples ⌝ }
 {}
