@@ -15,9 +15,9 @@ use Rattle.sheet_format.specs.declared.Checked.{Checked}
 use Rattle.sheet_format.specs.declared.CipherKind.{CipherKind}
 use Rattle.sheet_format.specs.declared.SheetFault.{SheetFault}
 use Rattle.sheet_laws.proofs.Clash.{clash}
-use Rattle.sheet.specs.Models.{formModel, nextOf, stepOf, tailOf}
-use Rattle.sheet.specs.declared.line.BodyLine.{BodyLine}
-use Rattle.sheet.specs.declared.line.LineKind.{LineKind}
+use Rattle.sheet_lines.specs.Models.{formModel, nextOf, stepOf, tailOf}
+use Rattle.sheet_lines.specs.declared.line.BodyLine.{BodyLine}
+use Rattle.sheet_lines.specs.declared.line.LineKind.{LineKind}
 use Rattle.listing.specs.Listing.{bodyText, bodiesText, cipherText, totalText, orderText, answerText, listingOf}
 
 unless-ok : (f : Option SheetFault) (r : Result Order SheetFault) (o : Order) → unless f r ≡ Ok o → r ≡ Ok o

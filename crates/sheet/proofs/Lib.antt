@@ -1,5 +1,3 @@
-pub mod Cuts
-pub mod Rows
 pub mod Slots
 pub mod Searches
 pub mod Steps

@@ -18,9 +18,9 @@ use Rattle.sheet_format.specs.declared.SheetFault.{SheetFault}
 use Rattle.sheet_format.specs.declared.SheetFault.the-variants.{NoForm}
 use Rattle.sheet_laws.specs.Grammar.{HasForm}
 use Rattle.sheet_laws.proofs.Clash.{clash}
-use Rattle.sheet.specs.Models.{formModel, nextOf, resultModel, stepOf, tailOf, TakenLine}
+use Rattle.sheet_lines.specs.Models.{formModel, nextOf, resultModel, stepOf, tailOf, TakenLine}
 use Rattle.sheet.specs.Progress.{Fits, refusedBy}
-use Rattle.sheet.specs.declared.line.Line.{Line}
+use Rattle.sheet_lines.specs.declared.line.Line.{Line}
 
 -- a line with no form
 pub next-err : (earlier ls : List format.Line) (k : ℕ) (f : SheetFault) → k ≡ length earlier → Some (Err f) ≡ nextOf k ls

@@ -1,4 +1,3 @@
-pub mod Models
 pub mod Kept
 pub mod Progress
 pub mod Checking

@@ -9,9 +9,9 @@ ghost use Rattle.sheet_format.specs.Orders.{checkedOf, mapOk, orderFrom, orderO
 ghost use Rattle.sheet_laws.specs.CheckLaw.{CheckLaw};
 ghost use Rattle.sheet.specs.Checking.{afterCheck, allowedOrFault, clearedFront};
 use super::progress::Progress;
-use super::reader::Lines;
 use sheet_format::Checked;
 use sheet_format::SheetFault;
+use sheet_lines::reader::Lines;
 
 const MAX_SHEET: usize = 4_096;
 

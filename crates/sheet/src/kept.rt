@@ -6,9 +6,9 @@ ghost use lib.ListN.{drop, length};
 ghost use Rattle.sheet_format.specs.Lines.{Body};
 ghost use Rattle.sheet_format.specs.Orders.{hasCtrStart, hasName};
 ghost use Rattle.sheet.specs.Kept.{Keeps, ctrStart, nameKept, startKept};
-ghost use Rattle.sheet.specs.Models.{bodyModel};
-use super::line::BodyLine;
+ghost use Rattle.sheet_lines.specs.Models.{bodyModel};
 use sheet_format::Mode;
+use sheet_lines::line::BodyLine;
 
 const SLOT: usize = 56;
 

@@ -1,9 +1,6 @@
-// The order sheet: the reader of lines, and `check`.
+// `check`: whether an order sheet passes.
 mod checking;
-mod fields;
 mod kept;
-pub mod line;
 mod progress;
-pub mod reader;
 
 pub use checking::check;

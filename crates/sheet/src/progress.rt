@@ -9,19 +9,19 @@ ghost use Rattle.std.specs.Vec.{made};
 ghost use Rattle.sheet_format.specs.Lines.{body as bodyLine, cipher as cipherLine, Line as FormatLine};
 ghost use Rattle.sheet_format.specs.Orders.{bodiesIn, ciphersIn, mapOk, orderAtEnd, summary};
 ghost use Rattle.sheet.specs.Kept.{ctrStart};
-ghost use Rattle.sheet.specs.Models.{bodyModel, formModel};
+ghost use Rattle.sheet_lines.specs.Models.{bodyModel, formModel};
 ghost use Rattle.sheet.specs.Progress.{Advanced, Fits, Reached, Stands, admitted};
 use super::kept::keep;
 use super::kept::name_taken;
 use super::kept::start_taken;
-use super::line::BodyLine;
-use super::line::Line;
-use super::line::LineKind;
 use sheet_format::Checked;
 use sheet_format::CipherKind;
 use sheet_format::Mode;
 use sheet_format::ModePartialEq;
 use sheet_format::SheetFault;
+use sheet_lines::line::BodyLine;
+use sheet_lines::line::Line;
+use sheet_lines::line::LineKind;
 
 const MAX_BODIES: usize = 32;
 

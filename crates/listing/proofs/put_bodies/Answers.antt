@@ -7,9 +7,9 @@ use Rattle.std.specs.declared.result.Result.{Result}
 use Rattle.sheet_format.specs.Lines.{Body, Line, linesOf}
 use Rattle.sheet_format.specs.Orders.{bodiesIn, bodyNamed}
 use Rattle.sheet_format.specs.declared.SheetFault.{SheetFault}
-use Rattle.sheet.specs.Models.{formModel, resultModel, tailOf}
-use Rattle.sheet.specs.declared.line.Line as line
-use Rattle.sheet.specs.declared.line.LineKind.{LineKind}
+use Rattle.sheet_lines.specs.Models.{formModel, resultModel, tailOf}
+use Rattle.sheet_lines.specs.declared.line.Line as line
+use Rattle.sheet_lines.specs.declared.line.LineKind.{LineKind}
 use Rattle.listing.proofs.Bodies.{body-written, next-less, next-named, none-named}
 use Rattle.listing.proofs.put_bodies.Needs as need
 

@@ -14,8 +14,8 @@ use Rattle.sheet_format.specs.Lines as format
 use Rattle.sheet_format.specs.Lines.{linesOf}
 use Rattle.sheet_format.specs.Orders.{bodiesIn, ciphersIn, lineFault, mapOk, orderAtEnd, orderFrom, summary, unless}
 use Rattle.sheet_format.specs.declared.SheetFault.{SheetFault}
-use Rattle.sheet.specs.Models.{formModel, resultModel, tailOf}
-use Rattle.sheet.specs.declared.line.Line.{Line}
+use Rattle.sheet_lines.specs.Models.{formModel, resultModel, tailOf}
+use Rattle.sheet_lines.specs.declared.line.Line.{Line}
 use Rattle.sheet.proofs.Walk.{next-end, next-err, next-ok, refused-err, refused-ok, taken-line}
 use Rattle.sheet.proofs.checking.check_lines.Needs as need
 

@@ -4,7 +4,7 @@ use native.Mathlib.Omega.{arith}
 use borrow.Author.Needs.{needs}
 use lib.ListN.{length}
 use Rattle.std.proofs.shelf.Parts.{drop-putMid}
-use Rattle.sheet.specs.Models.{bodyModel}
+use Rattle.sheet_lines.specs.Models.{bodyModel}
 use Rattle.sheet.proofs.Searches.{keeps-push}
 use Rattle.sheet.proofs.kept.keep.Needs as need
 

@@ -2,7 +2,7 @@ use native.Mathlib.Omega.{arith}
 use borrow.Author.Needs.{needs}
 use Rattle.sheet_format.specs.Orders.{bodiesIn}
 use Rattle.sheet_format.specs.Sizes.{blockLength}
-use Rattle.sheet.specs.Models.{bodyModel}
+use Rattle.sheet_lines.specs.Models.{bodyModel}
 use Rattle.sheet.proofs.Steps.{blocks-push, start-fits}
 use Rattle.sheet.proofs.progress.Progress.admit.Needs as need
 

@@ -7,7 +7,7 @@ use Rattle.std.specs.declared.option.Option.the-variants.{Some}
 use Rattle.std.specs.declared.result.Result.the-variants.{Err}
 use Rattle.sheet_format.specs.Lines.{body}
 use Rattle.sheet_format.specs.Orders.{bodiesIn, ciphersIn, lineFault}
-use Rattle.sheet.specs.Models.{bodyModel}
+use Rattle.sheet_lines.specs.Models.{bodyModel}
 use Rattle.sheet.specs.Progress.{blocksFor, refusedBy}
 use Rattle.sheet.proofs.Steps.{stands-body, admitted-ok, admitted-err, drop-later}
 use Rattle.sheet.proofs.progress.Progress.take_body.Needs as need

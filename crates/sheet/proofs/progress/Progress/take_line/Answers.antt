@@ -1,6 +1,6 @@
 use mathlib.Core.Path.{refl, ap}
 use mathlib.Core.Logic.{inl, inr, ⊎-elim}
-use Rattle.sheet.specs.Models.{formModel}
+use Rattle.sheet_lines.specs.Models.{formModel}
 use Rattle.sheet.proofs.Steps.{passed-over}
 use Rattle.sheet.proofs.progress.Progress.take_line.Needs as need
 

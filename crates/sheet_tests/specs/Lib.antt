@@ -1,0 +1,4 @@
+pub mod Texts
+pub mod Entries
+pub mod Escapes
+pub mod Agreement
