@@ -51,7 +51,10 @@ fn run_case(rt: &LibcRuntime, number: u64, answer: &str, sheet: &str) -> Result<
     }
 }
 
-fn run_table(rt: &LibcRuntime) -> Result<Tally, AnyError> {
+// Runs every case, and prints a line for each that differs.
+fn run_table(rt: &LibcRuntime) -> Result<Tally, AnyError>
+    ensures { λ r. ⌜ made r (λ t. t .differ ≤ t .cases) ⌝ }
+{
     let mut tally = Tally {
         cases: 0,
         differ: 0,
@@ -75,12 +78,8 @@ fn run_table(rt: &LibcRuntime) -> Result<Tally, AnyError> {
     Ok(tally)
 }
 
-fn run(rt: &LibcRuntime) -> Result<(), AnyError> {
-    let Tally { cases, differ } = run_table(rt)?;
-    println!(rt, "{cases} cases, {differ} differ")?;
-    Ok(())
-}
-
 fn main(rt: LibcRuntime) -> Result<(), AnyError> {
-    rt.report(run(&rt))
+    let Tally { cases, differ } = rt.report(run_table(&rt))?;
+    rt.report(println!(rt, "{cases} cases, {differ} differ"))?;
+    Ok(())
 }
