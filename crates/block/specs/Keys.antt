@@ -6,6 +6,7 @@ use lib.Dec.{eqb}
 use lib.ListN.{length}
 use Rattle.std.specs.declared.result.Result.{Result}
 use Rattle.std.specs.declared.result.Result.the-variants.{Ok, Err}
+use Rattle.fault.specs.declared.FaultCode.{FaultCode}
 use Rattle.hex.specs.Hex.{allHexDigits, hexBytes}
 use Rattle.block.specs.declared.BlockFault.{BlockFault}
 use Rattle.block.specs.declared.BlockFault.the-variants.{BlockLength, KeyText}
@@ -14,6 +15,7 @@ use Rattle.block.specs.declared.BlockFault.the-variants.{BlockLength, KeyText}
 abbrev pub keyOf : List ℕ → Result (List ℕ) BlockFault
 keyOf text = cond (eqb (length text) 64 && allHexDigits text) (Ok (hexBytes text)) (Err KeyText)
 
-abbrev pub numberOf : BlockFault → ℕ
-numberOf BlockLength = 18
-numberOf KeyText = 19
+-- layer 1, place 0
+abbrev pub codeOf : BlockFault → FaultCode
+codeOf BlockLength = record { layer = 1; number = 18; place = 0 }
+codeOf KeyText = record { layer = 1; number = 19; place = 0 }

@@ -4,7 +4,9 @@ ghost use mathlib.Core.Path.{_≡_};
 ghost use Prim.Native.Nat.{ℕ, _≤_};
 ghost use lib.ListN.{length, replicate};
 ghost use Rattle.block.specs.Blocks.{Lawful, Meaning, Same, blockAfter, blockAnswer};
-ghost use Rattle.block.specs.Keys.{keyOf, numberOf};
+ghost use Rattle.block.specs.Keys.{codeOf, keyOf};
+use fault::FaultCode;
+use hex::hex_digit;
 
 // Why a block or a key text is refused.
 #[derive(Clone, Copy, PartialEq, Eq, Debug)]
@@ -16,13 +18,18 @@ pub enum BlockFault {
 }
 
 impl BlockFault {
-    // The number of the fault. Its layer is 1, and its place 0.
-    pub fn number(self) -> u8
-        ensures { λ r. ⌜ r ≡ numberOf self ⌝ }
+    // Layer, number and place.
+    pub fn code(self) -> FaultCode
+        ensures { λ r. ⌜ r ≡ codeOf self ⌝ }
     {
-        match self {
+        let number = match self {
             BlockFault::BlockLength => 18,
             BlockFault::KeyText => 19,
+        };
+        FaultCode {
+            layer: 1,
+            number,
+            place: 0,
         }
     }
 }
@@ -54,4 +61,46 @@ pub trait BlockCipher {
         ensures answer { λ r. ⌜ r ≡ blockAnswer (meaning (now (self .entry)) .size) (length (now (block .entry))) ⌝ }
         ensures after { λ _. ⌜ now (block .exit) ≡ blockAfter (meaning (now (self .entry)) .size) (meaning (now (self .entry)) .inverse) (now (block .entry)) ⌝ }
         ensures same { λ _. ⌜ Same (meaning (now (self .entry))) (meaning (now (self .exit))) ⌝ };
+}
+
+// Clears the key text that it holds when it ends.
+struct ClearText<'a>(&'a mut [u8]);
+
+impl Drop for ClearText<'_> {
+    fn drop(self)
+        ensures { λ _. ⌜ now (self .exit .0) ≡ replicate (length (now (self .entry .0))) 0 ⌝ }
+    {
+        for b in self.0.iter_mut() {
+            *b = 0;
+        }
+        let ClearText(_) = self;
+    }
+}
+
+fn key_bytes(text: &[u8]) -> Result<[u8; 32], BlockFault>
+    ensures { λ r. ⌜ r ≡ keyOf (now (text .entry)) ⌝ }
+{
+    if text.len() != 64 {
+        return Err(BlockFault::KeyText);
+    }
+    let mut key = [0u8; 32];
+    for i in 0..32 {
+        let Some(high) = hex_digit(text[2 * i]) else {
+            return Err(BlockFault::KeyText);
+        };
+        let Some(low) = hex_digit(text[2 * i + 1]) else {
+            return Err(BlockFault::KeyText);
+        };
+        key[i] = 16 * high + low;
+    }
+    Ok(key)
+}
+
+// The 32 bytes that a key text of 64 digits means. The text is all zeros afterwards, also if it is refused.
+pub fn read_key(text: &mut [u8]) -> Result<[u8; 32], BlockFault>
+    ensures value { λ r. ⌜ r ≡ keyOf (now (text .entry)) ⌝ }
+    ensures cleared { λ _. ⌜ now (text .exit) ≡ replicate (length (now (text .entry))) 0 ⌝ }
+{
+    let guard = ClearText(text);
+    key_bytes(&*guard.0)
 }

@@ -1,6 +1,6 @@
 -- Layer, number and place of each fault of a sheet.
 use Prim.Native.Nat.{ℕ}
-use Rattle.sheet_format.specs.declared.FaultCode.{FaultCode}
+use Rattle.fault.specs.declared.FaultCode.{FaultCode}
 use Rattle.sheet_format.specs.declared.SheetFault.{SheetFault}
 use Rattle.sheet_format.specs.declared.SheetFault.the-variants.{TooLong, BadByte, NoForm, MisplacedCipher, BodyCount, BadLength, StartDigits, RepeatedName, RepeatedStart, TooManyBlocks, ShortWorkArea}
 

@@ -3,6 +3,7 @@ ghost use mathlib.Core.Path.{_≡_};
 ghost use Prim.Native.Nat.{ℕ, _*_, _<_, _^_};
 ghost use Rattle.sheet_format.specs.Sizes.{blockLength, startDigits, blocksOf, sealedLength};
 ghost use Rattle.sheet_format.specs.Faults.{codeOf};
+use fault::FaultCode;
 
 // The block cipher that a sheet orders.
 #[derive(Clone, Copy, PartialEq, Eq, Debug)]
@@ -106,15 +107,8 @@ pub enum SheetFault {
     ShortWorkArea,
 }
 
-// A fault as a user meets it: layer, number and place.
-#[derive(Clone, Copy, PartialEq, Eq, Debug)]
-pub struct FaultCode {
-    pub layer: u8,
-    pub number: u8,
-    pub place: usize,
-}
-
 impl SheetFault {
+    // Layer, number and place.
     pub fn code(self) -> FaultCode
         ensures { λ r. ⌜ r ≡ codeOf self ⌝ }
     {
