@@ -1,0 +1,24 @@
+-- Worked examples of Magma.
+use Prim.Native.Nat.{ℕ}
+use mathlib.Core.List.{List, [], _∷_}
+use mathlib.Core.Path.{_≡_}
+use Rattle.block.specs.Blocks.{Meaning}
+use Rattle.magma.specs.Magma.{rowAt, t, g, magma}
+
+-- the key of the examples
+abbrev pub exampleKey : List ℕ
+exampleKey =
+    0xff ∷ 0xee ∷ 0xdd ∷ 0xcc ∷ 0xbb ∷ 0xaa ∷ 0x99 ∷ 0x88 ∷ 0x77 ∷ 0x66 ∷ 0x55 ∷ 0x44 ∷ 0x33 ∷ 0x22 ∷ 0x11 ∷ 0x00 ∷ 0xf0 ∷ 0xf1 ∷ 0xf2 ∷ 0xf3 ∷ 0xf4 ∷ 0xf5 ∷ 0xf6 ∷ 0xf7 ∷ 0xf8 ∷ 0xf9 ∷ 0xfa ∷ 0xfb ∷ 0xfc ∷ 0xfd ∷ 0xfe ∷ 0xff ∷ []
+
+abbrev pub exampleText : List ℕ
+exampleText = 0xfe ∷ 0xdc ∷ 0xba ∷ 0x98 ∷ 0x76 ∷ 0x54 ∷ 0x32 ∷ 0x10 ∷ []
+
+abbrev pub exampleCode : List ℕ
+exampleCode = 0x4e ∷ 0xe9 ∷ 0x01 ∷ 0xe5 ∷ 0xc2 ∷ 0xd8 ∷ 0xca ∷ 0x3d ∷ []
+
+pub record MagmaExamples : Type 0 where
+  pub row : rowAt 1 12 ≡ 11
+  pub substitution : t 0xfdb97531 ≡ 0x2a196f34
+  pub mixed : g 0x87654321 0xfedcba98 ≡ 0xfdcbc20c
+  pub forward : magma exampleKey .forward exampleText ≡ exampleCode
+  pub inverse : magma exampleKey .inverse exampleCode ≡ exampleText
