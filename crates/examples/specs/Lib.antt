@@ -1,3 +1,4 @@
 pub mod Sheets
 pub mod Listings
 pub mod MagmaValues
+pub mod KuznyechikValues

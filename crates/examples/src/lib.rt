@@ -1,4 +1,5 @@
 // Worked examples of the definitions, as theorems: the contract of each function here is a list of them.
+ghost use Rattle.examples.specs.KuznyechikValues.{KuznyechikExamples};
 ghost use Rattle.examples.specs.Listings.{ListingExamples};
 ghost use Rattle.examples.specs.MagmaValues.{MagmaExamples};
 ghost use Rattle.examples.specs.Sheets.{SheetExamples};
@@ -16,4 +17,9 @@ pub fn listing_examples_hold()
 // Magma: a substitution, t, g, and a block enciphered and deciphered.
 pub fn magma_examples_hold()
     ensures { λ _. ⌜ MagmaExamples ⌝ }
+{}
+
+// Kuznyechik: S, R, L, the first constant, the round keys of a key, and a block enciphered and deciphered.
+pub fn kuznyechik_examples_hold()
+    ensures { λ _. ⌜ KuznyechikExamples ⌝ }
 {}

@@ -1,0 +1,15 @@
+pub mod Bytes
+pub mod Cipher
+pub mod Computed
+pub mod Field
+pub mod FieldLaw
+pub mod KeyBlocks
+pub mod Lawful
+pub mod Linear
+pub mod Lookup
+pub mod Loops
+pub mod Places
+pub mod Rounds
+pub mod Schedule
+pub mod Tested
+pub mod Words

@@ -1,0 +1,4 @@
+pub mod Field
+pub mod Kuznyechik
+pub mod Laws
+pub mod Tables
