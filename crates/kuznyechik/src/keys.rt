@@ -2,7 +2,7 @@
 ghost use mathlib.Core.Bool.{true};
 ghost use mathlib.Core.Path.{_≡_};
 ghost use Prim.Native.Nat.{_<_};
-ghost use Rattle.kuznyechik_spec.specs.Kuznyechik.{addKey, areBlocks, decipher, encipher, feistelRounds, halves, iterationConstant, lsx, roundKeys};
+ghost use Rattle.kuznyechik_spec.specs.Kuznyechik.{areBlocks, decipher, encipher, feistelRound, feistelRounds, halves, iterationConstant, roundKeys};
 use crate::transformations::add_key;
 use crate::transformations::inverse_l;
 use crate::transformations::inverse_s;
@@ -15,31 +15,30 @@ fn iteration_constant(i: u8) -> [u8; 16]
 {
     let mut c = [0u8; 16];
     c[15] = i;
-    transform_l(&mut c);
-    c
+    transform_l(c)
 }
 
-// What F[C_i] puts on the left.
-fn feistel_left(i: u8, left: &[u8; 16], right: &[u8; 16]) -> [u8; 16]
-    ensures { λ r. ⌜ r ≡ addKey (lsx (iterationConstant i) (now (left .entry))) (now (right .entry)) ⌝ }
+// F[C_i].
+fn feistel_round(i: u8, left: [u8; 16], right: [u8; 16]) -> ([u8; 16], [u8; 16])
+    ensures { λ r. ⌜ halves (r .0) (r .1) ≡ feistelRound (iterationConstant i) (halves left right) ⌝ }
 {
-    let mut x = *left;
-    lsx(&mut x, &iteration_constant(i));
-    let mut y = *right;
-    add_key(&mut y, &x);
-    y
+    let x = lsx(left, iteration_constant(i));
+    (add_key(right, x), left)
 }
 
 // F[C_(first+7)] .. F[C_first].
-fn feistel_rounds(first: u8, left: &mut [u8; 16], right: &mut [u8; 16])
+fn feistel_rounds(first: u8, left: [u8; 16], right: [u8; 16]) -> ([u8; 16], [u8; 16])
     requires { ⌜ first < 200 ⌝ }
-    ensures { λ _. ⌜ halves (now (left .exit)) (now (right .exit)) ≡ feistelRounds 8 first (halves (now (left .entry)) (now (right .entry))) ⌝ }
+    ensures { λ r. ⌜ halves (r .0) (r .1) ≡ feistelRounds 8 first (halves left right) ⌝ }
 {
+    let mut x = left;
+    let mut y = right;
     for j in 0..8 {
-        let x = feistel_left(first + j, left, right);
-        *right = *left;
-        *left = x;
+        let next = feistel_round(first + j, x, y);
+        x = next.0;
+        y = next.1;
     }
+    (x, y)
 }
 
 // The key schedule: K1 to K10.
@@ -50,19 +49,17 @@ pub fn key_schedule(key: &[u8; 32]) -> [[u8; 16]; 10]
     let mut right = [0u8; 16];
     left.copy_from_slice(&key[0..16]);
     right.copy_from_slice(&key[16..32]);
-    let k1 = left;
-    let k2 = right;
-    feistel_rounds(1, &mut left, &mut right);
-    let k3 = left;
-    let k4 = right;
-    feistel_rounds(9, &mut left, &mut right);
-    let k5 = left;
-    let k6 = right;
-    feistel_rounds(17, &mut left, &mut right);
-    let k7 = left;
-    let k8 = right;
-    feistel_rounds(25, &mut left, &mut right);
-    [k1, k2, k3, k4, k5, k6, k7, k8, left, right]
+    let mut rows = [[0u8; 16]; 10];
+    rows[0] = left;
+    rows[1] = right;
+    for i in 0..4u8 {
+        let next = feistel_rounds(8 * i + 1, left, right);
+        left = next.0;
+        right = next.1;
+        rows[2 * i as usize + 2] = left;
+        rows[2 * i as usize + 3] = right;
+    }
+    rows
 }
 
 // Ten round keys, each of them a block.
@@ -81,27 +78,25 @@ pub fn round_keys(key: &[u8; 32]) -> RoundKeys
 }
 
 // E.
-pub fn encipher_block(keys: &RoundKeys, a: &[u8; 16]) -> [u8; 16]
-    ensures { λ r. ⌜ r ≡ encipher (now (keys .entry) .keys) (now (a .entry)) ⌝ }
+pub fn encipher_block(keys: &RoundKeys, a: [u8; 16]) -> [u8; 16]
+    ensures { λ r. ⌜ r ≡ encipher (now (keys .entry) .keys) a ⌝ }
 {
-    let mut b = *a;
+    let mut b = a;
     for i in 0..9 {
-        lsx(&mut b, &keys.keys[i]);
+        let next = lsx(b, keys.keys[i]);
+        b = next;
     }
-    add_key(&mut b, &keys.keys[9]);
-    b
+    add_key(b, keys.keys[9])
 }
 
 // D.
-pub fn decipher_block(keys: &RoundKeys, a: &[u8; 16]) -> [u8; 16]
-    ensures { λ r. ⌜ r ≡ decipher (now (keys .entry) .keys) (now (a .entry)) ⌝ }
+pub fn decipher_block(keys: &RoundKeys, a: [u8; 16]) -> [u8; 16]
+    ensures { λ r. ⌜ r ≡ decipher (now (keys .entry) .keys) a ⌝ }
 {
-    let mut b = *a;
-    add_key(&mut b, &keys.keys[9]);
+    let mut b = add_key(a, keys.keys[9]);
     for i in (0..9).rev() {
-        inverse_l(&mut b);
-        inverse_s(&mut b);
-        add_key(&mut b, &keys.keys[i]);
+        let next = add_key(inverse_s(inverse_l(b)), keys.keys[i]);
+        b = next;
     }
     b
 }

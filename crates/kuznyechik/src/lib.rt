@@ -48,7 +48,7 @@ pub impl BlockCipher for Kuznyechik as KuznyechikCipher {
         }
         let mut a = [0u8; 16];
         a.copy_from_slice(block);
-        let b = encipher_block(&self.keys, &a);
+        let b = encipher_block(&self.keys, a);
         block.copy_from_slice(&b);
         Ok(())
     }
@@ -59,7 +59,7 @@ pub impl BlockCipher for Kuznyechik as KuznyechikCipher {
         }
         let mut a = [0u8; 16];
         a.copy_from_slice(block);
-        let b = decipher_block(&self.keys, &a);
+        let b = decipher_block(&self.keys, a);
         block.copy_from_slice(&b);
         Ok(())
     }

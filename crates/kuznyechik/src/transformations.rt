@@ -572,8 +572,8 @@ fn multiply(c: u8, a: u8) -> u8
 }
 
 // l.
-fn linear(a: &[u8; 16]) -> u8
-    ensures { λ r. ⌜ r ≡ linear (now (a .entry)) ⌝ }
+fn linear(a: [u8; 16]) -> u8
+    ensures { λ r. ⌜ r ≡ linear a ⌝ }
 {
     let mut sum = 0u8;
     for i in 0..16 {
@@ -583,39 +583,48 @@ fn linear(a: &[u8; 16]) -> u8
 }
 
 // R.
-fn transform_r(a: &mut [u8; 16])
-    ensures { λ _. ⌜ now (a .exit) ≡ transformR (now (a .entry)) ⌝ }
+fn transform_r(a: [u8; 16]) -> [u8; 16]
+    ensures { λ r. ⌜ r ≡ transformR a ⌝ }
 {
-    let x = linear(a);
-    a.rotate_right(1);
-    a[0] = x;
+    let mut b = a;
+    b.rotate_right(1);
+    b[0] = linear(a);
+    b
 }
 
 // The inverse of R.
-fn inverse_r(a: &mut [u8; 16])
-    ensures { λ _. ⌜ now (a .exit) ≡ inverseR (now (a .entry)) ⌝ }
+fn inverse_r(a: [u8; 16]) -> [u8; 16]
+    ensures { λ r. ⌜ r ≡ inverseR a ⌝ }
 {
-    a.rotate_left(1);
-    let x = linear(a);
-    a[15] = x;
+    let mut b = a;
+    b.rotate_left(1);
+    let x = linear(b);
+    b[15] = x;
+    b
 }
 
 // L.
-pub fn transform_l(a: &mut [u8; 16])
-    ensures { λ _. ⌜ now (a .exit) ≡ transformL (now (a .entry)) ⌝ }
+pub fn transform_l(a: [u8; 16]) -> [u8; 16]
+    ensures { λ r. ⌜ r ≡ transformL a ⌝ }
 {
+    let mut b = a;
     for _i in 0..16usize {
-        transform_r(a);
+        let next = transform_r(b);
+        b = next;
     }
+    b
 }
 
 // The inverse of L.
-pub fn inverse_l(a: &mut [u8; 16])
-    ensures { λ _. ⌜ now (a .exit) ≡ inverseL (now (a .entry)) ⌝ }
+pub fn inverse_l(a: [u8; 16]) -> [u8; 16]
+    ensures { λ r. ⌜ r ≡ inverseL a ⌝ }
 {
+    let mut b = a;
     for _i in 0..16usize {
-        inverse_r(a);
+        let next = inverse_r(b);
+        b = next;
     }
+    b
 }
 
 // π of a byte.
@@ -640,37 +649,41 @@ fn substitution_inverse(x: u8) -> u8
 }
 
 // S.
-fn transform_s(a: &mut [u8; 16])
-    ensures { λ _. ⌜ now (a .exit) ≡ transformS (now (a .entry)) ⌝ }
+fn transform_s(a: [u8; 16]) -> [u8; 16]
+    ensures { λ r. ⌜ r ≡ transformS a ⌝ }
 {
-    for x in a.iter_mut() {
-        *x = substitution(*x);
+    let mut b = a;
+    for i in 0..16 {
+        b[i] = substitution(b[i]);
     }
+    b
 }
 
 // The inverse of S.
-pub fn inverse_s(a: &mut [u8; 16])
-    ensures { λ _. ⌜ now (a .exit) ≡ inverseS (now (a .entry)) ⌝ }
+pub fn inverse_s(a: [u8; 16]) -> [u8; 16]
+    ensures { λ r. ⌜ r ≡ inverseS a ⌝ }
 {
-    for x in a.iter_mut() {
-        *x = substitution_inverse(*x);
+    let mut b = a;
+    for i in 0..16 {
+        b[i] = substitution_inverse(b[i]);
     }
+    b
 }
 
 // X[k].
-pub fn add_key(a: &mut [u8; 16], k: &[u8; 16])
-    ensures { λ _. ⌜ now (a .exit) ≡ addKey (now (k .entry)) (now (a .entry)) ⌝ }
+pub fn add_key(a: [u8; 16], k: [u8; 16]) -> [u8; 16]
+    ensures { λ r. ⌜ r ≡ addKey k a ⌝ }
 {
+    let mut b = a;
     for i in 0..16 {
-        a[i] ^= k[i];
+        b[i] ^= k[i];
     }
+    b
 }
 
 // LSX[k], one whole round.
-pub fn lsx(a: &mut [u8; 16], k: &[u8; 16])
-    ensures { λ _. ⌜ now (a .exit) ≡ lsx (now (k .entry)) (now (a .entry)) ⌝ }
+pub fn lsx(a: [u8; 16], k: [u8; 16]) -> [u8; 16]
+    ensures { λ r. ⌜ r ≡ lsx k a ⌝ }
 {
-    add_key(a, k);
-    transform_s(a);
-    transform_l(a);
+    transform_l(transform_s(add_key(a, k)))
 }

@@ -55,6 +55,7 @@ pub struct KuznyechikTables {
 }
 
 impl KuznyechikTables {
+    // Prepares the cipher with a key of 32 bytes, the highest first.
     pub fn prepare(key: &[u8; 32]) -> KuznyechikTables
         ensures { λ r. ⌜ Same (meaningOf r) (kuznyechik (now (key .entry))) ⌝ }
     {

@@ -8317,7 +8317,6 @@ pub fn inverse_round(state: u128, key: u128) -> u128
     ensures { λ r. ⌜ blockOf r ≡ addKey (blockOf key) (inverseS (inverseL (blockOf state))) ⌝ }
 {
     let mixed = lookup(inverse_table(), to_block(state));
-    let mut bytes = to_block(mixed);
-    inverse_s(&mut bytes);
+    let bytes = inverse_s(to_block(mixed));
     to_number(&bytes) ^ key
 }

@@ -8,7 +8,7 @@ use Rattle.kuznyechik.proofs.keys.encipher_block.Needs as need
 
 pub loop-i-again : need.loop-i-again
 loop-i-again c =
-    ap (encipher (drop (c .loop-i .i + 1) (c .args .keys .now .keys))) (c .lsx .ensures)
+    ap (encipher (drop (c .loop-i .i + 1) (c .args .keys .now .keys))) (c .lsx-next .ensures)
     ∙ encipher-more (c .args .keys .now .keys) (c .loop-i .i) (c .loop-i .b) (omega arith) ∙ c .loop-i .inv
 
 pub returns : need.returns

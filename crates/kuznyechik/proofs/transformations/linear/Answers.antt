@@ -14,9 +14,9 @@ loop-i-holds c = refl
 pub loop-i-again : need.loop-i-again
 unfolding coefficients
 loop-i-again c =
-    ap (λ y. bitXor (bitXor (c .loop-i .sum) y) (dotProduct (drop (c .loop-i .i + 1) coefficients) (drop (c .loop-i .i + 1) (c .args .a .now)))) (c .multiply-sum .ensures)
-    ∙ linear-more (c .loop-i .i) (c .loop-i .sum) (c .args .a .now) (c .loop-i-test .taken) (c .told-a)
+    ap (λ y. bitXor (bitXor (c .loop-i .sum) y) (dotProduct (drop (c .loop-i .i + 1) coefficients) (drop (c .loop-i .i + 1) (c .args .a)))) (c .multiply-sum .ensures)
+    ∙ linear-more (c .loop-i .i) (c .loop-i .sum) (c .args .a) (c .loop-i-test .taken) (omega arith)
     ∙ c .loop-i .inv
 
 pub returns : need.returns
-returns c = linear-all (c .loop-i .i) (c .loop-i .sum) (c .args .a .now) (omega arith) (c .loop-i .inv)
+returns c = linear-all (c .loop-i .i) (c .loop-i .sum) (c .args .a) (omega arith) (c .loop-i .inv)

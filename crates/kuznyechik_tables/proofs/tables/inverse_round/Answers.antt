@@ -17,5 +17,5 @@ returns c =
     let whole : Block 16 (inverseS (inverseL a)) = inverseS-block (inverseL a) (inverseL-block a (blockOf-block (c .args .state))) in
     blockOf-xor (c .to-number .result) (c .args .key)
     ∙ ap (addKey (blockOf (c .args .key)))
-    (ap blockOf (c .to-number .ensures ∙ ap (number 0) (c .inverse-s .ensures ∙ ap inverseS (c .to-block-bytes .ensures ∙ mixed)))
+    (ap blockOf (c .to-number .ensures ∙ ap (number 0) (c .inverse-s-bytes .ensures ∙ ap inverseS (c .to-block-2 .ensures ∙ mixed)))
     ∙ blockOf-number (inverseS (inverseL a)) whole)
