@@ -7,14 +7,6 @@ use lib.ListN.{length, drop, take, set, length-drop}
 use Rattle.kuznyechik_spec.specs.Kuznyechik.{iterationConstant, Halves, halves, feistelRound, feistelRounds, schedule, roundKeys}
 use Rattle.kuznyechik_spec.proofs.Loops.{whole}
 
-pub feistelRounds-step : (i j : ℕ) (t u : Halves) → j < 8 → u ≡ feistelRound (iterationConstant (i + j)) t
-    → feistelRounds (8 - (j + 1)) (i + (j + 1)) u ≡ feistelRounds (8 - j) (i + j) t
-unfolding feistelRounds
-feistelRounds-step i j t u h e =
-    let n : 8 - j ≡ suc (8 - (j + 1)) = omega arith in
-    let m : i + (j + 1) ≡ suc (i + j) = omega arith in
-    ap₂ (λ p q. feistelRounds (8 - (j + 1)) p q) m e ∙ sym (ap (λ k. feistelRounds k (i + j) t) n)
-
 -- two rows more
 two-set : (rows : List (List ℕ)) (n : ℕ) (x y : List ℕ) (rest : List (List ℕ)) → suc n < length rows
     → take (suc (suc n)) (set (set rows n x) (suc n) y) ++ rest ≡ take n rows ++ (x ∷ y ∷ rest)
