@@ -2,7 +2,6 @@ use mathlib.Core.Path.{ap, sym, _∙_}
 use native.Mathlib.Nat.{add-zero}
 use Rattle.kuznyechik_spec.specs.Kuznyechik.{halves, feistelRounds}
 use Rattle.kuznyechik_spec.proofs.Schedule.{feistelRounds-all, feistelRounds-step}
-
 use Rattle.kuznyechik.proofs.keys.feistel_rounds.Needs as need
 
 pub loop-j-holds : need.loop-j-holds
