@@ -1,3 +1,4 @@
 // One body of a set, enciphered and tagged piece by piece.
+#![tactic(auto)]
 pub mod opening;
 pub mod sealing;

@@ -1,4 +1,5 @@
 // A fault as a user meets it.
+#![tactic(auto)]
 
 // The layers are 1 blocks and keys, 2 sheet, 3 set, 4 opener. The place is a line, a body, or 0.
 #[derive(Clone, Copy, PartialEq, Eq, Debug)]

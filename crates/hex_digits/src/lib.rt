@@ -1,4 +1,6 @@
 // Hexadecimal digits.
+#![tactic(auto)]
+
 ghost use Rattle.std.specs.Prelude.{◌≡◌, ℕ, ◌<◌, IfSome};
 ghost use Rattle.hex_digits.specs.Hex.{all_hex_digits, hex_value};
 

@@ -1,4 +1,5 @@
 // `check`: whether an order sheet passes.
+#![tactic(auto)]
 mod checking;
 mod kept;
 mod progress;

@@ -1,4 +1,5 @@
 // The reader of lines of an order sheet.
+#![tactic(auto)]
 mod fields;
 pub mod line;
 pub mod reader;

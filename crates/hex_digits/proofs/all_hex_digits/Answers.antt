@@ -3,8 +3,8 @@ use Rattle.std.proofs.lemmas.List.{at_drop_more, at_drop_all}
 use Rattle.hex_digits.specs.Hex.{all_hex_digits}
 use Rattle.hex_digits.proofs.all_hex_digits.Goals as goal
 
-pub returns-then-is-none : goal.returns-then-is-none
-returns-then-is-none c =
+pub returns-then-is_none : goal.returns-then-is_none
+returns-then-is_none c =
     let e = at_drop_more all_hex_digits c.args.text.now c.loop-b.b-index 0 (omega arith) in search (rules, e)
 
 pub loop-b-preserved : goal.loop-b-preserved
