@@ -5,8 +5,8 @@ pub returns : goal.returns
 returns g c =
     let m = g.C.BlockCipher.meaning c.args.cipher.now in
     let s = (g.met.C.BlockCipher.lawful c.args.cipher.now).sized in
-    let n = c.block-length.result in
-    let e : n ≡ m.size = c.block-length.ensures in
+    let n = c.block_length.result in
+    let e : n ≡ m.size = c.block_length.ensures in
     record {
       value = e;
       low = ⊎_elim (λ (h : m.size ≡ 8). omega arith) (λ (h : m.size ≡ 16). omega arith) s;

@@ -3,24 +3,24 @@ use Rattle.hex_digits.specs.Hex.{all_hex_digits, hex_bytes}
 use Rattle.block.proofs.KeyText.{both-digits, finished, next-byte, no-high, no-low, wrong-length}
 use Rattle.block.proofs.key_bytes.Goals as goal
 
-pub returns-in-default : goal.returns-in-default
-returns-in-default c =
-    let e = no-high c.args.text.now c.loop-i.key c.loop-i.i (omega arith) c.loop-i.invariant.1 c.in-default.ensures.value in
+pub returns-in_default : goal.returns-in_default
+returns-in_default c =
+    let e = no-high c.args.text.now c.loop-i.key c.loop-i.i (omega arith) c.loop-i.invariant.1 c.in_default.ensures.value in
     search (rules, e)
 
-pub returns-in-default-hex-digit : goal.returns-in-default-hex-digit
-returns-in-default-hex-digit c =
+pub returns-in_default-hex_digit : goal.returns-in_default-hex_digit
+returns-in_default-hex_digit c =
     let e = no-low c.args.text.now c.loop-i.key c.loop-i.i (omega arith) c.loop-i.invariant.1 c.in-Some.high
-    c.in-Some.ensures.value c.in-default-hex-digit.ensures.value in
+    c.in-Some.ensures.value c.in_default-hex_digit.ensures.value in
     search (rules, e)
 
 pub loop-i-preserved : goal.loop-i-preserved
 loop-i-preserved c = (
   simp length-set c.loop-i.invariant.0,
-  both-digits c.args.text.now c.loop-i.key c.loop-i.i (omega arith) c.loop-i.invariant.1 c.in-Some.high c.in-Some-hex-digit.low
-      c.in-Some.ensures.value c.in-Some-hex-digit.ensures.value,
-  next-byte c.args.text.now c.loop-i.key c.loop-i.i (omega arith) c.loop-i.invariant.1 c.in-Some.high c.in-Some-hex-digit.low
-      c.in-Some.ensures.value c.in-Some-hex-digit.ensures.value (omega arith) c.loop-i.invariant.2,
+  both-digits c.args.text.now c.loop-i.key c.loop-i.i (omega arith) c.loop-i.invariant.1 c.in-Some.high c.in-Some-hex_digit.low
+      c.in-Some.ensures.value c.in-Some-hex_digit.ensures.value,
+  next-byte c.args.text.now c.loop-i.key c.loop-i.i (omega arith) c.loop-i.invariant.1 c.in-Some.high c.in-Some-hex_digit.low
+      c.in-Some.ensures.value c.in-Some-hex_digit.ensures.value (omega arith) c.loop-i.invariant.2,
 )
 
 pub returns-then-text-ne64 : goal.returns-then-text-ne64

@@ -16,7 +16,7 @@ loop-i-preserved c =
     let i = c.loop-i.i in
     let n : length ks ≡ 32 = reversed-length ws c.told-words in
     ap (composed (drop (i + 1) ks))
-    (c.round-next.ensures ∙ ap (λ (k : ℕ). round_g k (c.loop-i.a1, c.loop-i.a0)) (c.round-key.ensures ∙ reversed-key ws i c.told-words (omega arith)))
+    (c.round-next.ensures ∙ ap (λ (k : ℕ). round_g k (c.loop-i.a1, c.loop-i.a0)) (c.round_key.ensures ∙ reversed-key ws i c.told-words (omega arith)))
     ∙ sym (more i ks (c.loop-i.a1, c.loop-i.a0) (omega arith)) ∙ c.loop-i.invariant
 
 pub returns : goal.returns
@@ -28,6 +28,6 @@ returns c =
     let at : c.loop-i.i ≡ 31 = omega arith in
     let whole : composed (drop 31 ks) (c.loop-i.a1, c.loop-i.a0) ≡ composed ks (halves c.args.block.now) =
     ap (λ (j : ℕ). composed (drop j ks) (c.loop-i.a1, c.loop-i.a0)) (sym at) ∙ c.loop-i.invariant in
-    c.write-halves.ensures
-    ∙ ap joined_halves (c.last-round-last.ensures ∙ ap (λ (k : ℕ). last_g k (c.loop-i.a1, c.loop-i.a0)) (c.round-key-2.ensures ∙ reversed-key ws 31 c.told-words (omega arith)))
+    c.write_halves.ensures
+    ∙ ap joined_halves (c.last_round-last.ensures ∙ ap (λ (k : ℕ). last_g k (c.loop-i.a1, c.loop-i.a0)) (c.round_key-2.ensures ∙ reversed-key ws 31 c.told-words (omega arith)))
     ∙ ap joined_halves (sym (last 31 ks (c.loop-i.a1, c.loop-i.a0) (omega arith)) ∙ whole)

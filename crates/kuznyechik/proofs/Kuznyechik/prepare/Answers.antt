@@ -3,4 +3,4 @@ use Rattle.kuznyechik_spec.proofs.Lawful.{same_keys}
 use Rattle.kuznyechik.proofs.Kuznyechik.prepare.Goals as goal
 
 pub returns : goal.returns
-returns c = same_keys c.round-keys-keys.result.keys (round_keys c.args.key.now) c.round-keys-keys.ensures
+returns c = same_keys c.round_keys-keys.result.keys (round_keys c.args.key.now) c.round_keys-keys.ensures

@@ -16,12 +16,12 @@ loop-i-preserved c =
     let i = c.loop-i.i in
     let e : i ≡ suc (i - 1) = omega arith in
     λ a from.
-    c.add-key-next.ensures
-    ∙ ap (λ x. add_key (get_or ks (i - 1) []) x) (c.inverse-s.ensures ∙ ap inverse_s (c.inverse-l.ensures ∙ ap inverse_l (c.loop-i.invariant a from ∙ ap (λ m. decipher (drop m ks) a) e)))
+    c.add_key-next.ensures
+    ∙ ap (λ x. add_key (get_or ks (i - 1) []) x) (c.inverse_s.ensures ∙ ap inverse_s (c.inverse_l.ensures ∙ ap inverse_l (c.loop-i.invariant a from ∙ ap (λ m. decipher (drop m ks) a) e)))
     ∙ decipher-more ks (i - 1) a (omega arith)
 
 pub returns : goal.returns
 returns c =
     let ks = c.args.keys.now.keys in
     let z : c.loop-i.i ≡ 0 = omega arith in
-    c.loop-i.invariant c.args.a c.add-key-b.ensures ∙ ap (λ m. decipher (drop m ks) c.args.a) z
+    c.loop-i.invariant c.args.a c.add_key-b.ensures ∙ ap (λ m. decipher (drop m ks) c.args.a) z

@@ -15,4 +15,4 @@ pub returns : goal.returns
 returns c =
     let ks = c.args.keys.now.keys in
     let nine : 9 ≡ c.loop-i.i = omega arith in
-    c.add-key.ensures ∙ encipher-last ks 9 c.loop-i.b (omega arith) ∙ ap (λ i. encipher (drop i ks) c.loop-i.b) nine ∙ c.loop-i.invariant
+    c.add_key.ensures ∙ encipher-last ks 9 c.loop-i.b (omega arith) ∙ ap (λ i. encipher (drop i ks) c.loop-i.b) nine ∙ c.loop-i.invariant

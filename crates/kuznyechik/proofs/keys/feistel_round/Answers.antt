@@ -6,4 +6,4 @@ pub returns : goal.returns
 unfolding feistel_round
 returns c =
     ap (λ x. halves x c.args.left)
-    (c.add-key.ensures ∙ ap (λ x. add_key x c.args.right) (c.lsx-x.ensures ∙ ap (λ k. lsx k c.args.left) c.iteration-constant.ensures))
+    (c.add_key.ensures ∙ ap (λ x. add_key x c.args.right) (c.lsx-x.ensures ∙ ap (λ k. lsx k c.args.left) c.iteration_constant.ensures))

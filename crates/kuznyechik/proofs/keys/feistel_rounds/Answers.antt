@@ -9,7 +9,7 @@ loop-j-init c = ap (λ i. feistel_rounds 8 i (halves c.args.left c.args.right)) 
 
 pub loop-j-preserved : goal.loop-j-preserved
 loop-j-preserved c =
-    feistel_rounds-step c.args.first c.loop-j.j (halves c.loop-j.x c.loop-j.y) (halves c.feistel-round-next.result.0 c.feistel-round-next.result.1) c.loop-j-test.true c.feistel-round-next.ensures
+    feistel_rounds-step c.args.first c.loop-j.j (halves c.loop-j.x c.loop-j.y) (halves c.feistel_round-next.result.0 c.feistel_round-next.result.1) c.loop-j-test.true c.feistel_round-next.ensures
     ∙ c.loop-j.invariant
 
 pub returns : goal.returns

@@ -5,4 +5,4 @@ use Rattle.kuznyechik.proofs.keys.iteration_constant.Goals as goal
 
 pub returns : goal.returns
 unfolding iteration_constant
-returns c = c.transform-l.ensures ∙ ap transform_l (sym (block_of-small c.args.i c.ranges.i.fits))
+returns c = c.transform_l.ensures ∙ ap transform_l (sym (block_of-small c.args.i c.ranges.i.fits))

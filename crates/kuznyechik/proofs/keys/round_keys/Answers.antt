@@ -4,9 +4,9 @@ use Rattle.block.proofs.Bytes.{block-from}
 use Rattle.kuznyechik_spec.proofs.KeyBlocks.{round_keys-blocks, blocks_to}
 use Rattle.kuznyechik.proofs.keys.round_keys.Goals as goal
 
-pub invariant-of-result : goal.invariant-of-result
-invariant-of-result c =
+pub invariant_of-result : goal.invariant_of-result
+invariant_of-result c =
     let key = c.args.key.now in (
-      ap are_blocks c.key-schedule-keys.ensures ∙ blocks_to (round_keys key) (round_keys-blocks key (block-from 32 key c.told-key c.fits-key)),
+      ap are_blocks c.key_schedule-keys.ensures ∙ blocks_to (round_keys key) (round_keys-blocks key (block-from 32 key c.told-key c.fits-key)),
       tt,
     )

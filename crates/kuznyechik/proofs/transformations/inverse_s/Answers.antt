@@ -8,7 +8,7 @@ use Rattle.kuznyechik.proofs.transformations.inverse_s.Goals as goal
 pub loop-i-preserved : goal.loop-i-preserved
 loop-i-preserved c = (
   simp length-set c.loop-i.invariant.0,
-  mapped-more substitution_inverse c.args.a c.loop-i.b c.loop-i.i c.substitution-inverse.result (omega arith) c.loop-i.invariant.1 c.substitution-inverse.ensures,
+  mapped-more substitution_inverse c.args.a c.loop-i.b c.loop-i.i c.substitution_inverse.result (omega arith) c.loop-i.invariant.1 c.substitution_inverse.ensures,
 )
 
 pub returns : goal.returns

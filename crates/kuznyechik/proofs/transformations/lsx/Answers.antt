@@ -4,4 +4,4 @@ use Rattle.kuznyechik.proofs.transformations.lsx.Goals as goal
 
 pub returns : goal.returns
 unfolding lsx
-returns c = c.transform-l.ensures ∙ ap transform_l (c.transform-s.ensures ∙ ap transform_s c.add-key.ensures)
+returns c = c.transform_l.ensures ∙ ap transform_l (c.transform_s.ensures ∙ ap transform_s c.add_key.ensures)

@@ -18,9 +18,9 @@ loop-i-preserved c =
       | then-rest-eq1 w ↦ w.sum-is ∙ odd-sum c.loop-i.sum c.loop-i.rest c.loop-i.term (omega (arith, w.if-rest-eq1.true))
       | else-rest-eq1 w ↦ w.sum-is ∙ even_sum c.loop-i.sum c.loop-i.rest c.loop-i.term (omega (arith, w.if-rest-eq1.false))
     ] in
-    ap₂ (λ x y. bit_xor x (multiply_terms (8 - (c.loop-i.-i + 1)) (c.loop-i.rest / 2) y)) sum c.times-x-term.ensures
-    ∙ multiply-more c.loop-i.-i c.loop-i.sum c.loop-i.rest c.loop-i.term c.loop-i-test.true
+    ap₂ (λ x y. bit_xor x (multiply_terms (8 - (c.loop-i._i + 1)) (c.loop-i.rest / 2) y)) sum c.times_x-term.ensures
+    ∙ multiply-more c.loop-i._i c.loop-i.sum c.loop-i.rest c.loop-i.term c.loop-i-test.true
     ∙ c.loop-i.invariant
 
 pub returns : goal.returns
-returns c = sym (multiply-all c.loop-i.-i c.loop-i.sum c.loop-i.rest c.loop-i.term c.loop-i-test.false) ∙ c.loop-i.invariant
+returns c = sym (multiply-all c.loop-i._i c.loop-i.sum c.loop-i.rest c.loop-i.term c.loop-i-test.false) ∙ c.loop-i.invariant

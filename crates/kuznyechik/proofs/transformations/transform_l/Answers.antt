@@ -10,8 +10,8 @@ loop-i-init c = refl
 
 pub loop-i-preserved : goal.loop-i-preserved
 loop-i-preserved c =
-    ap (repeated (16 - (c.loop-i.-i + 1)) transform_r) c.transform-r-next.ensures
-    ∙ repeated-more c.loop-i.-i 16 transform_r c.loop-i.b c.loop-i-test.true ∙ c.loop-i.invariant
+    ap (repeated (16 - (c.loop-i._i + 1)) transform_r) c.transform_r-next.ensures
+    ∙ repeated-more c.loop-i._i 16 transform_r c.loop-i.b c.loop-i-test.true ∙ c.loop-i.invariant
 
 pub returns : goal.returns
-returns c = sym (repeated-all c.loop-i.-i 16 transform_r c.loop-i.b c.loop-i-test.false) ∙ c.loop-i.invariant
+returns c = sym (repeated-all c.loop-i._i 16 transform_r c.loop-i.b c.loop-i-test.false) ∙ c.loop-i.invariant

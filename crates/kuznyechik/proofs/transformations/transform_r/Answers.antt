@@ -6,5 +6,5 @@ use Rattle.kuznyechik.proofs.transformations.transform_r.Goals as goal
 
 pub returns : goal.returns
 returns c =
-    ap (λ l. set l 0 c.linear.result) c.rotate-right.ensures.after
+    ap (λ l. set l 0 c.linear.result) c.rotate_right.ensures.after
     ∙ rotated-right c.linear.result c.args.a (omega arith) c.linear.ensures

@@ -4,4 +4,4 @@ use Rattle.magma.specs.Laws.{same}
 use Rattle.magma.proofs.Magma.prepare.Goals as goal
 
 pub returns : goal.returns
-returns c = same c.key-words-words.result (key_words c.args.key.now) c.key-words-words.ensures
+returns c = same c.key_words-words.result (key_words c.args.key.now) c.key_words-words.ensures

@@ -5,4 +5,4 @@ use Rattle.magma.proofs.tables.round_function.Goals as goal
 
 pub returns : goal.returns
 returns c =
-    g-by-entries c.wide-table-wide.result.now c.wide-table-wide.ensures c.args.k c.args.a ((c.args.a + c.args.k) % 2 ^ 32) refl
+    g-by-entries c.wide_table-wide.result.now c.wide_table-wide.ensures c.args.k c.args.a ((c.args.a + c.args.k) % 2 ^ 32) refl

@@ -11,7 +11,7 @@ loop-i-init c = refl
 pub loop-i-preserved : goal.loop-i-preserved
 loop-i-preserved c =
     next c.args.a c.loop-i.i c.loop-i.out c.from.result (omega arith) (omega arith) c.loop-i.invariant
-    (c.from.ensures ∙ c.row-value.ensures)
+    (c.from.ensures ∙ c.row_value.ensures)
 
 pub returns : goal.returns
 returns c = done c.args.a c.loop-i.i c.loop-i.out c.loop-i-test.false c.loop-i.invariant

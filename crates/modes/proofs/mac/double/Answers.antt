@@ -15,7 +15,7 @@ returns-then-high c =
     let at : c.loop-i.i ≡ length a - 1 = omega arith in
     let inv : c.loop-i.block ≡ take (length a - 1) (shifted a) ++ drop (length a - 1) a = rw at at c.loop-i.invariant in
     let moved = shift-last a c.loop-i.block (length a - 1) (omega (arith, c.requires)) inv in
-    ap₂ (λ l b. set l (length a - 1) (bit_xor (get_or l (length a - 1) 0) b)) moved c.constant-b.ensures
+    ap₂ (λ l b. set l (length a - 1) (bit_xor (get_or l (length a - 1) 0) b)) moved c.constant_b.ensures
     ∙ join_last (shifted a) (length a - 1) (constant_b (length a)) (omega (arith, c.requires, length-shifted a))
     ∙ doubled-high (length a) a c.requires (le-leb 128 (get_or a 0 0) c.if-high.true)
 

@@ -3,6 +3,6 @@ use Rattle.modes.proofs.mac.subkey.Goals as goal
 
 pub returns : goal.returns
 returns g c = record {
-  made = subkey-made (g.C.BlockCipher.meaning c.args.cipher.now) c.block-length-n.result _ c.write-subkey.new.block c.block-length-n.ensures.value c.write-subkey.ensures.made;
-  same = c.write-subkey.ensures.same;
+  made = subkey-made (g.C.BlockCipher.meaning c.args.cipher.now) c.block_length-n.result _ c.write_subkey.new.block c.block_length-n.ensures.value c.write_subkey.ensures.made;
+  same = c.write_subkey.ensures.same;
 }

@@ -8,13 +8,13 @@ pub returns-then-b-lt48 : goal.returns-then-b-lt48
 returns-then-b-lt48 c =
     let e = at_drop_more (decimal_from c.loop-b.value) c.args.digits.now c.loop-b.b-index 0 (omega arith) in search (rules, e)
 
-pub overflow-mul-value : goal.overflow-mul-value
-overflow-mul-value c =
+pub overflow_mul-value : goal.overflow_mul-value
+overflow_mul-value c =
     let few : c.loop-b.b-index ≤ 6 = omega arith in
     omega (arith, pow-le-pow_right {n = 10} (omega arith) few)
 
-pub overflow-add-value : goal.overflow-add-value
-overflow-add-value c =
+pub overflow_add-value : goal.overflow_add-value
+overflow_add-value c =
     let few : c.loop-b.b-index ≤ 6 = omega arith in
     omega (arith, pow-le-pow_right {n = 10} (omega arith) few)
 

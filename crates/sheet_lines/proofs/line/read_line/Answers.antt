@@ -6,7 +6,7 @@ use Rattle.sheet_lines.proofs.line.read_line.Goals as goal
 pub returns-in-err-cipher : goal.returns-in-err-cipher
 returns-in-err-cipher c =
     let h : 0 < length c.args.text.now = search rules in
-    let e = ap form_of (first_rest c.args.text.now 0 h) in rw c.from-residual.ensures (search (rules, e))
+    let e = ap form_of (first_rest c.args.text.now 0 h) in rw c.from_residual.ensures (search (rules, e))
 
 pub returns-in-ok-cipher : goal.returns-in-ok-cipher
 returns-in-ok-cipher c =

@@ -6,10 +6,10 @@ use Rattle.modes.proofs.cbc.CbcSealer.feed.Goals as goal
 pub returns : goal.returns
 returns g c =
     let m = g.C.BlockCipher.meaning c.args.cipher.now in
-    let n = c.block-length-n.result in
+    let n = c.block_length-n.result in
     let s = c.args.self.now in
-    let size : n ≡ m.size = c.block-length-n.ensures.value in
-    let p = c.seal-piece in
+    let size : n ≡ m.size = c.block_length-n.ensures.value in
+    let p = c.seal_piece in
     let len = length c.args.piece.now in
     let tested : (s.chain.filled % n + len) / n * n ≤ length c.args.out.now = omega arith in
     let fits : n * ((s.chain.filled % n + len) / n) ≤ length c.args.out.now = rw (mul_comm ((s.chain.filled % n + len) / n) n) at tested in

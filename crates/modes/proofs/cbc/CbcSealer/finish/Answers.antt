@@ -6,10 +6,10 @@ use Rattle.modes.proofs.cbc.CbcSealer.finish.Goals as goal
 pub returns : goal.returns
 returns g c =
     let o = g.C.BlockCipher.meaning c.args.cipher.now in
-    let n = c.block-length-n.result in
-    let size : n ≡ o.size = c.block-length-n.ensures.value in
+    let n = c.block_length-n.result in
+    let size : n ≡ o.size = c.block_length-n.ensures.value in
     let a = c.advance in
-    let out = front-written o n a.new.self.register c.args.out.now c.copy-from-slice.new.self size c.block-length-n.ensures.high a.ensures.long c.copy-from-slice.ensures.after in
+    let out = front-written o n a.new.self.register c.args.out.now c.copy_from_slice.new.self size c.block_length-n.ensures.high a.ensures.long c.copy_from_slice.ensures.after in
     record {
       answer = out-ok o.size (length c.args.out.now) n size (omega arith);
       after = (

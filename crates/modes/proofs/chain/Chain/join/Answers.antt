@@ -9,5 +9,5 @@ returns c =
     record {
       count = c.min-run.ensures;
       filled = refl;
-      joined = joined-behind s.register c.args.piece.now c.join-front.new.bytes s.filled c.min-run.result long (omega (arith, c.requires.within, c.requires.short)) c.join-front.ensures;
+      joined = joined-behind s.register c.args.piece.now c.join_front.new.bytes s.filled c.min-run.result long (omega (arith, c.requires.within, c.requires.short)) c.join_front.ensures;
     }

@@ -17,7 +17,7 @@ loop-at-preserved g c =
     let B = c.loop-at.bytes in
     let at = c.loop-at.at in
     let inv = c.loop-at.invariant in
-    let size : c.block-length-n.result ≡ m.size = c.block-length-n.ensures.value in
+    let size : c.block_length-n.result ≡ m.size = c.block_length-n.ensures.value in
     let same : Same m (g.C.BlockCipher.meaning c.if-self-n.cipher) =
     elim c.if-self-n.branch [
       | then-self-n w ↦ subst (λ x. Same m (g.C.BlockCipher.meaning x)) (sym w.cipher-is) (same_then m o _ inv.0 w.refill.ensures.same)
@@ -31,14 +31,14 @@ loop-at-preserved g c =
           w.refill.ensures.made w.refill.ensures.long w.refill.ensures.kept inv.3)
       | else-self-n w ↦ subst (λ (x : CtrStream). JoinedCtr m s₀ (take at X) x (take at B)) (sym w.self-is) inv.3
     ] in
-    let under : c.if-self-n.self.used < c.block-length-n.result =
+    let under : c.if-self-n.self.used < c.block_length-n.result =
     elim c.if-self-n.branch [
       | then-self-n w ↦ omega (arith, ap (λ (x : CtrStream). x.used) w.self-is, w.refill.ensures.kept.1)
       | else-self-n w ↦ omega (arith, ap (λ (x : CtrStream). x.used) w.self-is, w.if-self-n.false)
     ] in
     let t =
-    turned m c.block-length-n.result s₀ c.if-self-n.self c.join-run-at.new.self X B c.join-run-at.new.bytes at c.join-run-at.result
-    size inv.1 c.loop-at.auto.bytes inv.2 c.join-run-at.ensures.count under c.block-length-n.ensures.high c.join-run-at.ensures.joined c.join-run-at.ensures.kept joined in
+    turned m c.block_length-n.result s₀ c.if-self-n.self c.join_run-at.new.self X B c.join_run-at.new.bytes at c.join_run-at.result
+    size inv.1 c.loop-at.auto.bytes inv.2 c.join_run-at.ensures.count under c.block_length-n.ensures.high c.join_run-at.ensures.joined c.join_run-at.ensures.kept joined in
     (same, t.0, t.1, t.2)
 
 pub returns : goal.returns

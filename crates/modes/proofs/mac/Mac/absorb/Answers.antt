@@ -17,8 +17,8 @@ loop-at-preserved g c =
     let X = c.args.piece.now in
     let at = c.loop-at.at in
     let inv = c.loop-at.invariant in
-    let n = c.block-length-n.result in
-    let size : n ≡ m.size = c.block-length-n.ensures.value in
+    let n = c.block_length-n.result in
+    let size : n ≡ m.size = c.block_length-n.ensures.value in
     let same : Same m (g.C.BlockCipher.meaning c.if-self-n.cipher) =
     elim c.if-self-n.branch [
       | then-self-n w ↦ subst (λ x. Same m (g.C.BlockCipher.meaning x)) (sym w.cipher-is) (same_then m o _ inv.0 w.advance.ensures.same)
@@ -34,7 +34,7 @@ loop-at-preserved g c =
           subst (λ (x : Mac). Ready m s₀ (take at X) x.chain) (sym w.self-is) (ready-already m s₀ c.loop-at.self (take at X) (omega (arith, w.if-self-n.false)) inv.2)
     ] in
     let t =
-    absorbed-turn m n s₀ c.if-self-n.self.chain record { chain = c.join-at.new.self } X at c.join-at.result size c.block-length-n.ensures.high c.are-bytes.ensures
+    absorbed-turn m n s₀ c.if-self-n.self.chain record { chain = c.join-at.new.self } X at c.join-at.result size c.block_length-n.ensures.high c.are_bytes.ensures
     c.loop-at-test.true c.join-at.ensures.count c.join-at.ensures.filled c.join-at.ensures.joined ready in
     (same, t.0, t.1)
 

@@ -18,8 +18,8 @@ returns g c =
     let o = g.C.BlockCipher.meaning c.args.cipher.now in
     let p = g.C.BlockCipher.meaning c.subkey-key.new.cipher in
     let s = c.args.self in
-    let n = c.block-length-n.result in
-    let size : n ≡ o.size = c.block-length-n.ensures.value in
+    let n = c.block_length-n.result in
+    let size : n ≡ o.size = c.block_length-n.ensures.value in
     let whole : Bool = leb n s.chain.filled in
     let reg : c.if-not-whole.chain.register ≡ chosen s.chain whole =
     elim c.if-not-whole.branch [
@@ -29,8 +29,8 @@ returns g c =
     record {
       mac = λ m text sm hold.
           let e : n ≡ m.size = size ∙ sym sm.sizes in
-          tag-made m n text c.advance.new.self.register c.copy-from-slice.new.self e c.block-length-n.ensures.high c.copy-from-slice.ensures.after
-          (mac-made m text s hold o p c.if-not-whole.chain.register c.join-front.new.bytes c.advance.new.self.register whole sm c.subkey-key.ensures.same
-          (ap (λ (k : ℕ). leb k s.chain.filled) e) reg (c.join-front.ensures ∙ ap (joined_front c.if-not-whole.chain.register) c.subkey-key.ensures.made) c.advance.ensures.made);
+          tag-made m n text c.advance.new.self.register c.copy_from_slice.new.self e c.block_length-n.ensures.high c.copy_from_slice.ensures.after
+          (mac-made m text s hold o p c.if-not-whole.chain.register c.join_front.new.bytes c.advance.new.self.register whole sm c.subkey-key.ensures.same
+          (ap (λ (k : ℕ). leb k s.chain.filled) e) reg (c.join_front.ensures ∙ ap (joined_front c.if-not-whole.chain.register) c.subkey-key.ensures.made) c.advance.ensures.made);
       same = same_then o p _ c.subkey-key.ensures.same c.advance.ensures.same;
     }

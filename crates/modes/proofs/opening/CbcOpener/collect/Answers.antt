@@ -9,6 +9,6 @@ returns c =
     record {
       count = c.min-run.ensures;
       filled = refl;
-      copied = collected s.block c.args.piece.now c.copy-from-slice.new.self s.filled c.min-run.result long (omega (arith, c.requires.within, c.requires.short, c.min-run.ensures)) (omega (arith, c.min-run.ensures)) c.copy-from-slice.ensures.after;
+      copied = collected s.block c.args.piece.now c.copy_from_slice.new.self s.filled c.min-run.result long (omega (arith, c.requires.within, c.requires.short, c.min-run.ensures)) (omega (arith, c.min-run.ensures)) c.copy_from_slice.ensures.after;
       kept = (refl, refl);
     }

@@ -7,8 +7,8 @@ returns g c =
     let s = c.args.self.now in
     let long : length s.block ≡ 16 = omega arith in
     let long2 : length s.previous ≡ 16 = omega arith in
-    let w = c.block-length-n.ensures in
+    let w = c.block_length-n.ensures in
     record {
-      opened = block-opened (g.C.BlockCipher.meaning c.args.cipher.now) c.block-length-n.result s.block s.previous c.copy-from-slice.new.self c.decipher.new.block c.join-front.new.bytes w.value w.high long long2 c.copy-from-slice.ensures.after c.decipher.auto.block c.decipher.ensures.after c.join-front.ensures;
+      opened = block-opened (g.C.BlockCipher.meaning c.args.cipher.now) c.block_length-n.result s.block s.previous c.copy_from_slice.new.self c.decipher.new.block c.join_front.new.bytes w.value w.high long long2 c.copy_from_slice.ensures.after c.decipher.auto.block c.decipher.ensures.after c.join_front.ensures;
       same = c.decipher.ensures.same;
     }

@@ -25,8 +25,8 @@ pub loop-at-preserved : goal.loop-at-preserved
 loop-at-preserved g c =
     let m = g.C.BlockCipher.meaning c.args.cipher.now in
     let inv = c.loop-at.invariant in
-    let n = c.block-length-n.result in
-    let size : n ≡ m.size = c.block-length-n.ensures.value in
+    let n = c.block_length-n.result in
+    let size : n ≡ m.size = c.block_length-n.ensures.value in
     let k = c.collect-at in
     let f : k.new.self.filled ≡ c.loop-at.self.filled + k.result = k.ensures.filled in
     let l : k.new.self.left ≡ c.loop-at.self.left = k.ensures.kept.1 in
@@ -41,7 +41,7 @@ loop-at-preserved g c =
       omega (arith, inv.5),
       inv.6,
       collected-turn m n c.args.self.now c.loop-at.self k.new.self c.args.piece.now (take c.loop-at.written c.loop-at.out) c.loop-at.at k.result
-          size c.are-bytes.ensures k.ensures.count le f k.ensures.copied k.ensures.kept inv.7,
+          size c.are_bytes.ensures k.ensures.count le f k.ensures.copied k.ensures.kept inv.7,
     )
 
 pub loop-at-preserved-then-self-n : goal.loop-at-preserved-then-self-n
@@ -49,8 +49,8 @@ loop-at-preserved-then-self-n g c =
     let m = g.C.BlockCipher.meaning c.args.cipher.now in
     let o = g.C.BlockCipher.meaning c.loop-at.cipher in
     let inv = c.loop-at.invariant in
-    let n = c.block-length-n.result in
-    let size : n ≡ m.size = c.block-length-n.ensures.value in
+    let n = c.block_length-n.result in
+    let size : n ≡ m.size = c.block_length-n.ensures.value in
     let k = c.collect-at in
     let s₀ = c.args.self.now in
     let X = c.args.piece.now in
@@ -60,10 +60,10 @@ loop-at-preserved-then-self-n g c =
     let l : k.new.self.left ≡ c.loop-at.self.left = k.ensures.kept.1 in
     let le : c.loop-at.self.filled ≤ n = omega (arith, inv.2) in
     let go = run-within n c.loop-at.self.filled c.loop-at.at k.result X k.ensures.count inv.1 in
-    let step = c.next-block.ensures in
+    let step = c.next_block.ensures in
     let full : m.size ≤ k.new.self.filled = omega (arith, c.if-self-n.true) in
     let exact : k.new.self.filled ≡ n = omega (arith, c.if-self-n.true, go.1) in
-    let pos : 0 < n = omega (arith, c.block-length-n.ensures.low) in
+    let pos : 0 < n = omega (arith, c.block_length-n.ensures.low) in
     let jl : inv.4.0 + c.loop-at.self.left ≡ s₀.left = inv.4.1.1 in
     let some : 0 < c.loop-at.self.left = omega (arith, c.if-self-gt0.true) in
     let all : m.size * min ((s₀.filled + length X) / m.size) s₀.left ≤ length c.loop-at.out = omega (arith, c.requires.room, c.loop-at.auto.out) in
@@ -72,32 +72,32 @@ loop-at-preserved-then-self-n g c =
     let room : w + n ≤ length c.loop-at.out =
     room-for-opened n inv.4.0 s₀.filled (c.loop-at.at + k.result) (length X) s₀.left (length c.loop-at.out) w pos
     (inv.4.1.0 ∙ ap (λ (x : ℕ). x * inv.4.0) (sym size)) (omega (arith, inv.5)) go.0 (omega arith) fits in
-    let J = c.open-block.new.out in
+    let J = c.open_block.new.out in
     let lp : length (take (w + n - w) (drop w c.loop-at.out)) ≡ n = simp (length-take, length-drop) (omega arith) in
-    let lj : length J ≡ n = c.open-block.auto.out ∙ lp in
+    let lj : length J ≡ n = c.open_block.auto.out ∙ lp in
     let out = block-put n w c.loop-at.out c.args.out.now J lj room inv.6 in
-    let z : c.next-block.new.self.filled ≡ 0 = step.2 in
-    let left : c.next-block.new.self.left + 1 ≡ k.new.self.left = step.3 in
+    let z : c.next_block.new.self.filled ≡ 0 = step.2 in
+    let left : c.next_block.new.self.left + 1 ≡ k.new.self.left = step.3 in
     let joined =
     collected-turn m n s₀ c.loop-at.self k.new.self X (take w c.loop-at.out) c.loop-at.at k.result
-    size c.are-bytes.ensures k.ensures.count le f k.ensures.copied k.ensures.kept inv.7 in (
-      same_then m o _ inv.0 c.open-block.ensures.same,
+    size c.are_bytes.ensures k.ensures.count le f k.ensures.copied k.ensures.kept inv.7 in (
+      same_then m o _ inv.0 c.open_block.ensures.same,
       go.0,
       omega arith,
       (λ h. omega arith),
       (suc inv.4.0, (omega (arith, inv.4.1.0, size, mul-suc m.size inv.4.0), omega arith)),
       omega (arith, inv.5),
       out.1,
-      subst (λ x. CollectedCbc m s₀ (take (c.loop-at.at + k.result) X) c.next-block.new.self x) (sym out.0)
-          (opened-turn m o s₀ k.new.self c.next-block.new.self (take (c.loop-at.at + k.result) X) (take w c.loop-at.out) J inv.0 full c.open-block.ensures.opened step joined),
+      subst (λ x. CollectedCbc m s₀ (take (c.loop-at.at + k.result) X) c.next_block.new.self x) (sym out.0)
+          (opened-turn m o s₀ k.new.self c.next_block.new.self (take (c.loop-at.at + k.result) X) (take w c.loop-at.out) J inv.0 full c.open_block.ensures.opened step joined),
     )
 
 pub returns : goal.returns
 returns g c =
     let m = g.C.BlockCipher.meaning c.args.cipher.now in
     let inv = c.loop-at.invariant in
-    let n = c.block-length-n.result in
-    let size : n ≡ m.size = c.block-length-n.ensures.value in
+    let n = c.block_length-n.result in
+    let size : n ≡ m.size = c.block_length-n.ensures.value in
     let k = c.collect in
     let s₀ = c.args.self.now in
     let X = c.args.piece.now in
@@ -106,7 +106,7 @@ returns g c =
     let f : k.new.self.filled ≡ c.loop-at.self.filled + k.result = k.ensures.filled in
     let l : k.new.self.left ≡ c.loop-at.self.left = k.ensures.kept.1 in
     let le : c.loop-at.self.filled ≤ n = omega (arith, inv.2) in
-    let pos : 0 < m.size = omega (arith, c.block-length-n.ensures.low) in
+    let pos : 0 < m.size = omega (arith, c.block_length-n.ensures.low) in
     let jl : inv.4.0 + c.loop-at.self.left ≡ s₀.left = inv.4.1.1 in
     let how : (c.loop-at.self.left ≡ 0) ⊎ ((c.loop-at.at ≡ length X) × (c.loop-at.self.filled < m.size)) =
     elim c.loop-at-test.branch [
@@ -127,7 +127,7 @@ returns g c =
     let whole = take_all (at + k.result) X (omega arith) in
     let joined =
     collected-turn m n s₀ c.loop-at.self k.new.self X (take w c.loop-at.out) at k.result
-    size c.are-bytes.ensures count le f k.ensures.copied k.ensures.kept inv.7 in
+    size c.are_bytes.ensures count le f k.ensures.copied k.ensures.kept inv.7 in
     let end : (k.new.self.left ≡ 0) ⊎ (k.new.self.filled < m.size) =
     ⊎_elim (λ (none : c.loop-at.self.left ≡ 0). inl (l ∙ none)) (λ (p : (c.loop-at.at ≡ length X) × (c.loop-at.self.filled < m.size)). inr (omega (arith, p.0, p.1))) how in
     record {

@@ -6,12 +6,12 @@ use Rattle.modes.proofs.opening.CbcOpener.take.Goals as goal
 pub returns : goal.returns
 returns g c =
     let m = g.C.BlockCipher.meaning c.args.cipher.now in
-    let n = c.block-length-n.result in
+    let n = c.block_length-n.result in
     let s = c.args.self.now in
-    let p = c.open-piece in
+    let p = c.open_piece in
     let len = length c.args.piece.now in
     let room = length c.args.out.now in
-    let size : n ≡ m.size = c.block-length-n.ensures.value in
+    let size : n ≡ m.size = c.block_length-n.ensures.value in
     let filled : c.settled-filled.result ≡ settled_fill m.size s.left s.filled = c.settled-filled.ensures ∙ ap (λ (k : ℕ). settled_fill k s.left s.filled) size in
     let fits : c.settled-filled.result + len ≤ n * (s.left + 1) = c.if-n-left.false in
     let tested : opened_next n c.settled-filled.result s.left len ≤ room = rw c.min.ensures at c.if-out-n.false in

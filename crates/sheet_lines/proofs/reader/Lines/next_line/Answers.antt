@@ -6,8 +6,8 @@ use Rattle.sheet_lines.specs.Models.{form_model, next_of, step_of, tail_of}
 use Rattle.sheet_lines.proofs.Rows.{lines-at-cut, lines-uncut}
 use Rattle.sheet_lines.proofs.reader.Lines.next_line.Goals as goal
 
-pub returns-then-is-empty : goal.returns-then-is-empty
-returns-then-is-empty c =
+pub returns-then-is_empty : goal.returns-then-is_empty
+returns-then-is_empty c =
     let h : length c.args.self.now.rest.now ≡ 0 = search rules in
     let e : c.args.self.now.rest.now ≡ [] = nil_from_length c.args.self.now.rest.now h in
     let q : [] ≡ lines_of c.args.self.now.rest.now = sym (ap lines_of e) in
@@ -18,11 +18,11 @@ returns-then-is-empty c =
       number = ap (step_of c.args.self.now.number) q;
     }
 
-pub returns-in-default : goal.returns-in-default
-returns-in-default c =
+pub returns-in_default : goal.returns-in_default
+returns-in_default c =
     let all = c.args.self.now.rest.now in
     let h : 0 < length all = search rules in
-    let p = lines-uncut all h (sym c.in-default.ensures) in
+    let p = lines-uncut all h (sym c.in_default.ensures) in
     let q : None ∷ [] ≡ lines_of all = sym p.0 in
     let n = nil_from_length (take (length all - length all) (drop (length all) all)) (simp (length-take, length-drop) (omega arith)) in
     record {
@@ -32,22 +32,22 @@ returns-in-default c =
       number = ap (step_of c.args.self.now.number) q;
     }
 
-pub invariant-of-self-2 : goal.invariant-of-self-2
-invariant-of-self-2 c =
+pub invariant_of-self-2 : goal.invariant_of-self-2
+invariant_of-self-2 c =
     let e = lines-at-cut c.args.self.now.rest.now c.in-Some.text.now c.in-Some.rest.now (sym c.in-Some.ensures) in
     (omega (arith, e.1), tt)
 
-pub returns-in-Some-read-line : goal.returns-in-Some-read-line
-returns-in-Some-read-line c =
+pub returns-in-Some-read_line : goal.returns-in-Some-read_line
+returns-in-Some-read_line c =
     let e = lines-at-cut c.args.self.now.rest.now c.in-Some.text.now c.in-Some.rest.now (sym c.in-Some.ensures) in
-    let q : Some (form_model c.in-Some-read-line.kind) ∷ lines_of c.in-Some.rest.now ≡ lines_of c.args.self.now.rest.now =
-    ap (λ (l : Line). l ∷ lines_of c.in-Some.rest.now) c.in-Some-read-line.ensures ∙ sym e.0 in
+    let q : Some (form_model c.in-Some-read_line.kind) ∷ lines_of c.in-Some.rest.now ≡ lines_of c.args.self.now.rest.now =
+    ap (λ (l : Line). l ∷ lines_of c.in-Some.rest.now) c.in-Some-read_line.ensures ∙ sym e.0 in
     record {
       value = ap (next_of c.args.self.now.number) q;
       parts = (
         c.in-Some.text.now,
         e.2,
-        form-found c.in-Some.text.now (form_model c.in-Some-read-line.kind) e.3 (sym c.in-Some-read-line.ensures),
+        form-found c.in-Some.text.now (form_model c.in-Some-read_line.kind) e.3 (sym c.in-Some-read_line.ensures),
       );
       rest = ap tail_of q;
       number = ap (step_of c.args.self.now.number) q;
