@@ -86,11 +86,11 @@ fn entries_of(cipher: CipherKind, sheet: &[u8]) -> [Entry; 32]
     rows
 }
 
-// The cipher that has a block length.
-fn cipher_of(block_length: usize) -> CipherKind
-    ensures { (c : CipherKind) → block_length ≡ block_length c → result ≡ c }
+// The cipher whose block length is n.
+fn cipher_of(n: usize) -> CipherKind
+    ensures { (c : CipherKind) → n ≡ block_length c → result ≡ c }
 {
-    if block_length == 16 {
+    if n == 16 {
         CipherKind::Kuznyechik
     } else {
         CipherKind::Magma

@@ -161,11 +161,11 @@ fn put_refusal(heap: Global, out: &mut Vec<u8>, fault: SheetFault) -> Result<(),
     Ok(())
 }
 
-// The cipher that has a block length.
-fn cipher_of(block_length: usize) -> CipherKind
-    ensures { (c : CipherKind) → block_length ≡ block_length c → result ≡ c }
+// The cipher whose block length is n.
+fn cipher_of(n: usize) -> CipherKind
+    ensures { (c : CipherKind) → n ≡ block_length c → result ≡ c }
 {
-    if block_length == 16 {
+    if n == 16 {
         CipherKind::Kuznyechik
     } else {
         CipherKind::Magma

@@ -11,12 +11,12 @@ use Rattle.listing.proofs.put_bodies.Goals as goal
 pub loop-item-smaller : goal.loop-item-smaller
 loop-item-smaller c =
     let p = next-less c.loop-item.lines.number (lines_of c.loop-item.lines.rest.now) (result_model c.in-Some.item) c.in-Some.ensures.value in
-    omega (arith, p.0, ap length c.next-line.ensures.rest)
+    omega (arith, p.0, ap length c.next_line.ensures.rest)
 
 pub loop-item-smaller-in-Body : goal.loop-item-smaller-in-Body
 loop-item-smaller-in-Body c =
     let p = next-less c.loop-item.lines.number (lines_of c.loop-item.lines.rest.now) (result_model c.in-Some.item) c.in-Some.ensures.value in
-    omega (arith, p.0, ap length c.next-line.ensures.rest)
+    omega (arith, p.0, ap length c.next_line.ensures.rest)
 
 pub loop-item-preserved-in-Body : goal.loop-item-preserved-in-Body
 loop-item-preserved-in-Body c =
@@ -25,8 +25,8 @@ loop-item-preserved-in-Body c =
     let v = ap (λ (i : Result line.Line SheetFault). Some (result_model i)) (sym c.in-Ok.is) ∙ c.in-Some.ensures.value in
     let b = next-named c.loop-item.lines.number ls c.in-Ok.line.number (form_model c.in-Ok.line.kind) v
     ∙ ap (λ (k : LineKind). body_named (Some (form_model k)) ++ bodies_in (tail_of ls)) c.in-Body.is in (
-      omega (arith, p.1, c.next-line.ensures.number),
-      rw c.next-line.ensures.rest (body-written _ _ _ _ _ _ _ _ b c.in-ok-put-body.ensures c.loop-item.invariant.1),
+      omega (arith, p.1, c.next_line.ensures.number),
+      rw c.next_line.ensures.rest (body-written _ _ _ _ _ _ _ _ b c.in_ok-put_body.ensures c.loop-item.invariant.1),
     )
 
 pub loop-item-preserved : goal.loop-item-preserved
@@ -36,7 +36,7 @@ loop-item-preserved c =
     let v = ap (λ (i : Result line.Line SheetFault). Some (result_model i)) (sym c.in-Ok.is) ∙ c.in-Some.ensures.value in
     let b : bodies_in ls ≡ bodies_in (tail_of ls) =
     next-named c.loop-item.lines.number ls c.in-Ok.line.number (form_model c.in-Ok.line.kind) v
-    ∙ ap (λ (bs : List Body). bs ++ bodies_in (tail_of ls)) (none_named c.in-Ok.line.kind c.in-default-kind.not-Body) in (
-      omega (arith, p.1, c.next-line.ensures.number),
-      rw (c.next-line.ensures.rest, ← b) c.loop-item.invariant.1,
+    ∙ ap (λ (bs : List Body). bs ++ bodies_in (tail_of ls)) (none_named c.in-Ok.line.kind c.in_default-kind.not-Body) in (
+      omega (arith, p.1, c.next_line.ensures.number),
+      rw (c.next_line.ensures.rest, ← b) c.loop-item.invariant.1,
     )

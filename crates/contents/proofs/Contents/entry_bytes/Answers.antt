@@ -9,5 +9,5 @@ returns-then-number-self c = ap (option_map entry_of) (body-past c.args.self.now
 
 pub returns : goal.returns
 returns c =
-    ap (λ (xs : List ℕ). Some xs) (c.fill-entry.ensures ∙ entry-same c.args.self.now c.args.number _ (omega arith))
+    ap (λ (xs : List ℕ). Some xs) (c.fill_entry.ensures ∙ entry-same c.args.self.now c.args.number _ (omega arith))
     ∙ ap (option_map entry_of) (body-found c.args.self.now c.args.number _ (omega arith))

@@ -14,27 +14,27 @@ pub bounds-rows-count : goal.bounds-rows-count
 bounds-rows-count c =
     let ls = lines_of c.loop-item.lines.rest.now in
     let first = first-named c.loop-item.lines.number ls _ c.in-Some.item c.in-Ok.line c.in-Some.ensures.value c.in-Ok.is
-    c.next-line.ensures.rest c.in-Body.body c.in-Body.is in
+    c.next_line.ensures.rest c.in-Body.body c.in-Body.is in
     omega (arith, ap length first, c.loop-item.invariant.1, c.requires.few)
 
-pub entry-of-entry-requires : goal.entry-of-entry-requires
-entry-of-entry-requires c =
+pub entry_of-entry-requires : goal.entry_of-entry-requires
+entry_of-entry-requires c =
     let n = block_length c.args.cipher in
     let ls = lines_of c.loop-item.lines.rest.now in
     let first = first-named c.loop-item.lines.number ls _ c.in-Some.item c.in-Ok.line c.in-Some.ensures.value c.in-Ok.is
-    c.next-line.ensures.rest c.in-Body.body c.in-Body.is in
+    c.next_line.ensures.rest c.in-Body.body c.in-Body.is in
     (line-fits n c.loop-item.count c.loop-item.rows (record { mode = c.in-Body.body.mode; length = 0; start = []; name_length = 0; name = [] })
     (body_model c.in-Body.body) (bodies_named ls) _ first c.loop-item.invariant.4).0
 
 pub loop-item-smaller : goal.loop-item-smaller
 loop-item-smaller c =
     let p = next-less c.loop-item.lines.number (lines_of c.loop-item.lines.rest.now) (result_model c.in-Some.item) c.in-Some.ensures.value in
-    omega (arith, p, ap length c.next-line.ensures.rest)
+    omega (arith, p, ap length c.next_line.ensures.rest)
 
 pub loop-item-smaller-in-Body : goal.loop-item-smaller-in-Body
 loop-item-smaller-in-Body c =
     let p = next-less c.loop-item.lines.number (lines_of c.loop-item.lines.rest.now) (result_model c.in-Some.item) c.in-Some.ensures.value in
-    omega (arith, p, ap length c.next-line.ensures.rest)
+    omega (arith, p, ap length c.next_line.ensures.rest)
 
 pub loop-item-preserved-in-Body : goal.loop-item-preserved-in-Body
 loop-item-preserved-in-Body c =
@@ -42,24 +42,24 @@ loop-item-preserved-in-Body c =
     let ls = lines_of c.loop-item.lines.rest.now in
     let count = c.loop-item.count in
     let rows = c.loop-item.rows in
-    let entry = c.entry-of-entry.result in
+    let entry = c.entry_of-entry.result in
     let b = body_model c.in-Body.body in
-    let later = bodies_named (lines_of c.next-line.new.self.rest.now) in
-    let first = first-named c.loop-item.lines.number ls (lines_of c.next-line.new.self.rest.now) c.in-Some.item c.in-Ok.line
-    c.in-Some.ensures.value c.in-Ok.is c.next-line.ensures.rest c.in-Body.body c.in-Body.is in
+    let later = bodies_named (lines_of c.next_line.new.self.rest.now) in
+    let first = first-named c.loop-item.lines.number ls (lines_of c.next_line.new.self.rest.now) c.in-Some.item c.in-Ok.line
+    c.in-Some.ensures.value c.in-Ok.is c.next_line.ensures.rest c.in-Body.body c.in-Body.is in
     let less : c.loop-item.count < length c.loop-item.rows = omega (arith, ap length first, c.loop-item.invariant.0, c.loop-item.invariant.1, c.requires.few) in (
       length-set rows count entry ∙ c.loop-item.invariant.0,
       line-counted n count rows entry b (bodies_named ls) later first (length (bodies_named (lines_of c.args.sheet.now))) c.loop-item.invariant.1,
-      line-more n count rows entry b (bodies_named ls) later first (map ordered (bodies_named (lines_of c.args.sheet.now))) less c.entry-of-entry.ensures.value
+      line-more n count rows entry b (bodies_named ls) later first (map ordered (bodies_named (lines_of c.args.sheet.now))) less c.entry_of-entry.ensures.value
           c.loop-item.invariant.2,
       subst (λ (es : List Entry). are_held n es ≡ true) (sym (take_more_set rows count entry less))
-          (held-push n (take count rows) entry c.loop-item.invariant.3 c.entry-of-entry.ensures.held),
+          (held-push n (take count rows) entry c.loop-item.invariant.3 c.entry_of-entry.ensures.held),
       (line-fits n count rows entry b (bodies_named ls) later first c.loop-item.invariant.4).1,
     )
 
 pub loop-item-preserved : goal.loop-item-preserved
 loop-item-preserved c =
     let ls = lines_of c.loop-item.lines.rest.now in
-    let none = none_left c.loop-item.lines.number ls (lines_of c.next-line.new.self.rest.now) c.in-Some.item c.in-Ok.line
-    c.in-Some.ensures.value c.in-Ok.is c.next-line.ensures.rest c.in-default-kind.not-Body in
+    let none = none_left c.loop-item.lines.number ls (lines_of c.next_line.new.self.rest.now) c.in-Some.item c.in-Ok.line
+    c.in-Some.ensures.value c.in-Ok.is c.next_line.ensures.rest c.in_default-kind.not-Body in
     rw (← none) c.loop-item.invariant

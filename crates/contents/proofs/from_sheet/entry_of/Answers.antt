@@ -4,13 +4,13 @@ use Rattle.sheet_lines.specs.Models.{body_model}
 use Rattle.contents.proofs.Lines.{line-body, line-held}
 use Rattle.contents.proofs.from_sheet.entry_of.Goals as goal
 
-pub name-field-name-requires : goal.name-field-name-requires
-name-field-name-requires c = name-short c.args.body.name.now c.requires.named
+pub name_field-name-requires : goal.name_field-name-requires
+name_field-name-requires c = name-short c.args.body.name.now c.requires.named
 
 pub returns : goal.returns
 returns c = record {
-  value = line-body c.args.cipher (body_model c.args.body) c.start-field-start.result c.name-field-name.result c.requires
-      c.start-field-start.ensures c.name-field-name.ensures;
-  held = line-held c.args.cipher (body_model c.args.body) c.start-field-start.result c.name-field-name.result c.requires
-      c.start-field-start.ensures c.name-field-name.ensures;
+  value = line-body c.args.cipher (body_model c.args.body) c.start_field-start.result c.name_field-name.result c.requires
+      c.start_field-start.ensures c.name_field-name.ensures;
+  held = line-held c.args.cipher (body_model c.args.body) c.start_field-start.result c.name_field-name.result c.requires
+      c.start_field-start.ensures c.name_field-name.ensures;
 }

@@ -4,9 +4,9 @@ use Rattle.contents.proofs.from_sheet.start_field.Goals as goal
 
 pub loop-i-preserved : goal.loop-i-preserved
 loop-i-preserved c =
-    let v = 16 * c.unwrap-or-high.result + c.unwrap-or-low.result in
-    let high = c.unwrap-or-high.ensures ∙ ap (λ (o : Option ℕ). unwrap_or o 0) c.hex-digit.ensures.value in
-    let low = c.unwrap-or-low.ensures ∙ ap (λ (o : Option ℕ). unwrap_or o 0) c.hex-digit-in-loop-i.ensures.value in (
+    let v = 16 * c.unwrap_or-high.result + c.unwrap_or-low.result in
+    let high = c.unwrap_or-high.ensures ∙ ap (λ (o : Option ℕ). unwrap_or o 0) c.hex_digit.ensures.value in
+    let low = c.unwrap_or-low.ensures ∙ ap (λ (o : Option ℕ). unwrap_or o 0) c.hex_digit-in-loop-i.ensures.value in (
       length-set c.loop-i.field c.loop-i.i v ∙ c.loop-i.invariant.0,
       start-more c.loop-i.i v c.loop-i.field c.args.digits.now (omega (arith, c.loop-i.invariant.0)) (omega arith)
           (ap₂ (λ (x y : ℕ). 16 * x + y) high low) c.loop-i.invariant.1,

@@ -9,14 +9,14 @@ use Rattle.contents.proofs.Held.{held-push}
 use Rattle.contents.proofs.Next.{bodies-more, length_front, part_at, walk-stops, walk-goes}
 use Rattle.contents.proofs.reading.read_entries.Goals as goal
 
-pub returns-in-default : goal.returns-in-default
-returns-in-default c =
+pub returns-in_default : goal.returns-in_default
+returns-in_default c =
     let n = block_length c.args.cipher in
     let i = c.loop-i.i in
     let earlier = bodies_in n i c.loop-i.rows in
     record {
       value = walk-stops n earlier c.args.count i c.args.bytes.now (omega arith) (bodies_from n [] c.args.count c.args.bytes.now) c.loop-i.invariant.4
-          (c.in-default.ensures.value ∙ ap (next_body n earlier) (part_at i c.args.bytes.now))
+          (c.in_default.ensures.value ∙ ap (next_body n earlier) (part_at i c.args.bytes.now))
           (length_front n i c.loop-i.rows (omega (arith, c.loop-i.invariant.0)));
       held = tt;
     }

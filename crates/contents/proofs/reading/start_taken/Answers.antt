@@ -6,17 +6,17 @@ use Rattle.contents_format.specs.Reading.{ctr_start_in}
 use Rattle.contents.proofs.Searches.{search-hit, search-miss, search-none}
 use Rattle.contents.proofs.reading.start_taken.Goals as goal
 
-pub returns-then-has-ctr-start : goal.returns-then-has-ctr-start
-returns-then-has-ctr-start c =
+pub returns-then-has_ctr_start : goal.returns-then-has_ctr_start
+returns-then-has_ctr_start c =
     search-hit (λ b. is_ctr b.mode && bytes_eq b.start c.args.start.now) (ctr_start_in c.args.start.now) (λ _ _. refl)
     (block_length c.args.cipher) c.args.count c.loop-i.i c.args.rows.now _ (omega arith) (omega arith)
-    c.if-has-ctr-start.ensures c.loop-i.invariant
+    c.if-has_ctr_start.ensures c.loop-i.invariant
 
 pub loop-i-preserved : goal.loop-i-preserved
 loop-i-preserved c =
     search-miss (λ b. is_ctr b.mode && bytes_eq b.start c.args.start.now) (ctr_start_in c.args.start.now) (λ _ _. refl)
     (block_length c.args.cipher) c.args.count c.loop-i.i c.args.rows.now _ (omega arith) (omega arith)
-    c.if-has-ctr-start.ensures c.loop-i.invariant
+    c.if-has_ctr_start.ensures c.loop-i.invariant
 
 pub returns : goal.returns
 returns c =

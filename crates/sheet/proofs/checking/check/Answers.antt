@@ -11,12 +11,12 @@ pub returns : goal.returns
 returns c =
     let sheet = c.args.sheet.now in
     let work = c.args.work.now in
-    let whole : ltb (length work) 1792 ≡ false = le-ltb (length work) 1792 c.if-work-lt-WORK-LENGTH.false in
-    let same : length c.check-in.new.area ≡ length work = search rules in
+    let whole : ltb (length work) 1792 ≡ false = le-ltb (length work) 1792 c.if-work-lt-WORK_LENGTH.false in
+    let same : length c.check_in.new.area ≡ length work = search rules in
     record {
-      answer = c.check-in.ensures.answer ∙ sym (cond-false (ltb (length work) 1792) (Err ShortWorkArea) (map_ok summary (order_of sheet)) whole);
-      law = λ _. subst (CheckLaw sheet) (sym c.check-in.ensures.answer) (keeps-the-law sheet);
+      answer = c.check_in.ensures.answer ∙ sym (cond-false (ltb (length work) 1792) (Err ShortWorkArea) (map_ok summary (order_of sheet)) whole);
+      law = λ _. subst (CheckLaw sheet) (sym c.check_in.ensures.answer) (keeps-the-law sheet);
       work = c.drop-guard.ensures
-          ∙ ap₂ (λ (n : ℕ) (rest : List ℕ). replicate (min 1792 n) 0 ++ rest) same c.check-in.ensures.rest
+          ∙ ap₂ (λ (n : ℕ) (rest : List ℕ). replicate (min 1792 n) 0 ++ rest) same c.check_in.ensures.rest
           ∙ sym (cond-false (ltb (length work) 1792) work (cleared_front work) whole);
     }

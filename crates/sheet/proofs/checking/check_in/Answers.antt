@@ -7,6 +7,6 @@ use Rattle.sheet.proofs.checking.check_in.Goals as goal
 pub returns : goal.returns
 returns c =
     let sheet = c.args.sheet.now in
-    let e = bytes-passed (length_fault sheet) (byte_fault (bad_line 1 sheet)) c.in-ok-check-bytes.field-0 (order_from [] (lines_of sheet))
-    c.in-ok-check-bytes.ensures.value in
-    record { answer = c.check-lines.ensures.answer ∙ ap (map_ok summary) (sym e); rest = c.check-lines.ensures.rest }
+    let e = bytes-passed (length_fault sheet) (byte_fault (bad_line 1 sheet)) c.in_ok-check_bytes.field-0 (order_from [] (lines_of sheet))
+    c.in_ok-check_bytes.ensures.value in
+    record { answer = c.check_lines.ensures.answer ∙ ap (map_ok summary) (sym e); rest = c.check_lines.ensures.rest }

@@ -24,67 +24,67 @@ loop-item-init c = (
   refl,
 )
 
-pub returns-in-err-line : goal.returns-in-err-line
-returns-in-err-line c =
+pub returns-in_err-line : goal.returns-in_err-line
+returns-in_err-line c =
     let inv = c.loop-item.invariant in
-    let f = c.in-err-line.field-0.0 in
-    let p = err_from_is_err_and c.from-residual.result c.from-residual.ensures.1 in
-    let v = ap seen (sym c.in-err-line.was) ∙ c.in-Some.ensures.value in
+    let f = c.in_err-line.field-0.0 in
+    let p = err_from_is_err_and c.from_residual.result c.from_residual.ensures.1 in
+    let v = ap seen (sym c.in_err-line.was) ∙ c.in-Some.ensures.value in
     let e = next-err inv.0 (lines_of c.loop-item.lines.rest.now) c.loop-item.lines.number f inv.2 v in
     record { answer = p.1 ∙ ap Err p.2 ∙ ap (map_ok summary) (sym e ∙ inv.4); rest = inv.6 }
 
-pub take-line-requires : goal.take-line-requires
-take-line-requires c =
+pub take_line-requires : goal.take_line-requires
+take_line-requires c =
     let inv = c.loop-item.invariant in
-    let t = taken-line c.loop-item.lines.rest.now c.next-line.new.self.rest.now c.in-Some.item c.in-ok-line.line
-    c.in-ok-line.was c.in-Some.ensures.parts in
+    let t = taken-line c.loop-item.lines.rest.now c.next_line.new.self.rest.now c.in-Some.item c.in_ok-line.line
+    c.in_ok-line.was c.in-Some.ensures.parts in
     record { area = search rules; reached = (inv.0, inv.1); fits = t.0 }
 
 pub loop-item-smaller : goal.loop-item-smaller
 loop-item-smaller c =
-    let t = taken-line c.loop-item.lines.rest.now c.next-line.new.self.rest.now c.in-Some.item c.in-ok-line.line
-    c.in-ok-line.was c.in-Some.ensures.parts in
+    let t = taken-line c.loop-item.lines.rest.now c.next_line.new.self.rest.now c.in-Some.item c.in_ok-line.line
+    c.in_ok-line.was c.in-Some.ensures.parts in
     t.1
 
 pub loop-item-preserved : goal.loop-item-preserved
 loop-item-preserved c =
     let inv = c.loop-item.invariant in
-    let l = c.in-ok-line.line in
+    let l = c.in_ok-line.line in
     let g = form_model l.kind in
-    let v = ap seen (sym c.in-ok-line.was) ∙ c.in-Some.ensures.value in
+    let v = ap seen (sym c.in_ok-line.was) ∙ c.in-Some.ensures.value in
     let e = next-ok inv.0 (lines_of c.loop-item.lines.rest.now) c.loop-item.lines.number l.number g inv.2 v in
-    let t = taken-line c.loop-item.lines.rest.now c.next-line.new.self.rest.now c.in-Some.item l
-    c.in-ok-line.was c.in-Some.ensures.parts in
+    let t = taken-line c.loop-item.lines.rest.now c.next_line.new.self.rest.now c.in-Some.item l
+    c.in_ok-line.was c.in-Some.ensures.parts in
     let n = c.in-Some.ensures.number ∙ e.1 in
-    let o = refused-ok (line_fault l.number inv.0 (Some g)) c.in-ok-take-line.field-0
-    (c.in-ok-take-line.ensures.advanced.answer inv.0 inv.1) in (
+    let o = refused-ok (line_fault l.number inv.0 (Some g)) c.in_ok-take_line.field-0
+    (c.in_ok-take_line.ensures.advanced.answer inv.0 inv.1) in (
       inv.0 ++ Some g ∷ [],
-      c.in-ok-take-line.ensures.advanced.next inv.0 inv.1,
+      c.in_ok-take_line.ensures.advanced.next inv.0 inv.1,
       n ∙ ap (λ (i : ℕ). i + 1) inv.2 ∙ sym (length_push inv.0 (Some g)),
       omega (arith, n, t.1, inv.3),
       ap (order_from (inv.0 ++ Some g ∷ [])) c.in-Some.ensures.rest
           ∙ ap (λ (f : Option SheetFault). unless f (order_from (inv.0 ++ Some g ∷ []) (tail_of (lines_of c.loop-item.lines.rest.now)))) (sym o)
           ∙ sym e.0 ∙ inv.4,
       e.2 ∙ ap (λ (i : ℕ). i + 1) inv.2 ∙ sym (length_push inv.0 (Some g)),
-      c.in-ok-take-line.ensures.rest ∙ inv.6,
+      c.in_ok-take_line.ensures.rest ∙ inv.6,
     )
 
-pub returns-in-err-take-line : goal.returns-in-err-take-line
-returns-in-err-take-line c =
+pub returns-in_err-take_line : goal.returns-in_err-take_line
+returns-in_err-take_line c =
     let inv = c.loop-item.invariant in
-    let l = c.in-ok-line.line in
+    let l = c.in_ok-line.line in
     let g = form_model l.kind in
-    let f = c.in-err-take-line.field-0.0 in
-    let p = err_from_is_err_and c.from-residual-in-err-take-line.result c.from-residual-in-err-take-line.ensures.1 in
-    let v = ap seen (sym c.in-ok-line.was) ∙ c.in-Some.ensures.value in
+    let f = c.in_err-take_line.field-0.0 in
+    let p = err_from_is_err_and c.from_residual-in_err-take_line.result c.from_residual-in_err-take_line.ensures.1 in
+    let v = ap seen (sym c.in_ok-line.was) ∙ c.in-Some.ensures.value in
     let e = next-ok inv.0 (lines_of c.loop-item.lines.rest.now) c.loop-item.lines.number l.number g inv.2 v in
     let o = refused-err (line_fault l.number inv.0 (Some g)) f
-    (c.in-err-take-line.ensures.advanced.answer inv.0 inv.1) in
+    (c.in_err-take_line.ensures.advanced.answer inv.0 inv.1) in
     let rest = order_from (inv.0 ++ Some g ∷ []) (tail_of (lines_of c.loop-item.lines.rest.now)) in
     record {
       answer = p.1 ∙ ap Err p.2
           ∙ ap (map_ok summary) (ap (λ (f : Option SheetFault). unless f rest) (sym o) ∙ sym e.0 ∙ inv.4);
-      rest = c.in-err-take-line.ensures.rest ∙ inv.6;
+      rest = c.in_err-take_line.ensures.rest ∙ inv.6;
     }
 
 pub finish-requires : goal.finish-requires
@@ -93,7 +93,7 @@ finish-requires c = let inv = c.loop-item.invariant in omega (arith, inv.5, inv.
 pub returns : goal.returns
 returns c =
     let inv = c.loop-item.invariant in
-    let e = next-end (lines_of c.loop-item.lines.rest.now) c.loop-item.lines.number c.in-default.ensures.value in
+    let e = next-end (lines_of c.loop-item.lines.rest.now) c.loop-item.lines.number c.in_default.ensures.value in
     record {
       answer = c.finish.ensures c.loop-item.area inv.0 inv.1
           ∙ ap (map_ok summary)

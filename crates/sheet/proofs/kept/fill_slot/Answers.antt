@@ -12,8 +12,8 @@ returns c =
     let put : List ℕ → List ℕ → List ℕ =
     λ s n. put_mid 24 (24 + length name - 24) (put_mid 8 (8 + length start - 8) (set (set slot 0 (length name)) 1 (length start)) s) n in
     record {
-      name = ap₂ (λ (s n : List ℕ). name_kept (put s n)) c.copy-from-slice.ensures.after c.copy-from-slice-2.ensures.after
+      name = ap₂ (λ (s n : List ℕ). name_kept (put s n)) c.copy_from_slice.ensures.after c.copy_from_slice-2.ensures.after
           ∙ name-filled slot start name c.requires.slot c.requires.start c.requires.name;
-      start = ap₂ (λ (s n : List ℕ). start_kept (put s n)) c.copy-from-slice.ensures.after c.copy-from-slice-2.ensures.after
+      start = ap₂ (λ (s n : List ℕ). start_kept (put s n)) c.copy_from_slice.ensures.after c.copy_from_slice-2.ensures.after
           ∙ start-filled slot start name c.requires.slot c.requires.start c.requires.name;
     }

@@ -12,14 +12,14 @@ returns-then-eq c =
     λ bodies counted keeps.
     let d = slice_eq-Decides Decides-eqb _ _ _ c.eq.ensures in
     name-hit c.args.area.now c.args.name.now bodies c.loop-i.i keeps (omega arith)
-    (ap name_kept (slot-part c.args.area.now c.loop-i.i) ∙ sym c.name-kept.ensures ∙ d.0 c.if-eq.true)
+    (ap name_kept (slot-part c.args.area.now c.loop-i.i) ∙ sym c.name_kept.ensures ∙ d.0 c.if-eq.true)
 
 pub loop-i-preserved : goal.loop-i-preserved
 loop-i-preserved c =
     let d = slice_eq-Decides Decides-eqb _ _ _ c.eq.ensures in
     below_more _ _ c.loop-i.invariant
     (λ e. both_ways c.eq.result c.if-eq.false
-    (d.1 (c.name-kept.ensures ∙ sym (ap name_kept (slot-part c.args.area.now c.loop-i.i)) ∙ e)))
+    (d.1 (c.name_kept.ensures ∙ sym (ap name_kept (slot-part c.args.area.now c.loop-i.i)) ∙ e)))
 
 pub returns : goal.returns
 returns c =

@@ -12,14 +12,14 @@ returns-then-eq c =
     λ bodies counted keeps some.
     let d = slice_eq-Decides Decides-eqb _ _ _ c.eq.ensures in
     start-hit c.args.area.now c.args.start.now bodies c.loop-i.i keeps some (omega arith)
-    (ap start_kept (slot-part c.args.area.now c.loop-i.i) ∙ sym c.start-kept.ensures ∙ d.0 c.if-eq.true)
+    (ap start_kept (slot-part c.args.area.now c.loop-i.i) ∙ sym c.start_kept.ensures ∙ d.0 c.if-eq.true)
 
 pub loop-i-preserved : goal.loop-i-preserved
 loop-i-preserved c =
     let d = slice_eq-Decides Decides-eqb _ _ _ c.eq.ensures in
     below_more _ _ c.loop-i.invariant
     (λ e. both_ways c.eq.result c.if-eq.false
-    (d.1 (c.start-kept.ensures ∙ sym (ap start_kept (slot-part c.args.area.now c.loop-i.i)) ∙ e)))
+    (d.1 (c.start_kept.ensures ∙ sym (ap start_kept (slot-part c.args.area.now c.loop-i.i)) ∙ e)))
 
 pub returns : goal.returns
 returns c =

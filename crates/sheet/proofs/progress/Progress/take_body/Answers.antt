@@ -7,18 +7,18 @@ use Rattle.sheet.specs.Progress.{blocks_for, refused_by}
 use Rattle.sheet.proofs.Steps.{stands-body, admitted-ok, admitted-err, drop-later}
 use Rattle.sheet.proofs.progress.Progress.take_body.Goals as goal
 
-pub returns-in-err-blocks : goal.returns-in-err-blocks
-returns-in-err-blocks c =
+pub returns-in_err-blocks : goal.returns-in_err-blocks
+returns-in_err-blocks c =
     let b = body_model c.args.body in
-    let f = c.in-err-blocks.field-0.0 in
-    let p = err_from_is_err_and c.from-residual.result c.from-residual.ensures.1 in
+    let f = c.in_err-blocks.field-0.0 in
+    let p = err_from_is_err_and c.from_residual.result c.from_residual.ensures.1 in
     record {
       advanced = record {
         answer = λ earlier st.
             p.1 ∙ ap Err p.2
             ∙ sym (ap refused_by (admitted-err (line_fault c.args.line earlier (Some (body b))) (blocks_for (ciphers_in earlier) (bodies_in earlier ++ b ∷ [])) f
-            (c.in-err-blocks.ensures.value earlier st)));
-        next = λ earlier st. IfOk-from_err c.from-residual.result _ c.from-residual.ensures.0;
+            (c.in_err-blocks.ensures.value earlier st)));
+        next = λ earlier st. IfOk-from_err c.from_residual.result _ c.from_residual.ensures.0;
       };
       rest = refl;
     }
@@ -26,17 +26,17 @@ returns-in-err-blocks c =
 pub returns : goal.returns
 returns c =
     let b = body_model c.args.body in
-    let facts = c.in-ok-blocks.ensures in
+    let facts = c.in_ok-blocks.ensures in
     record {
       advanced = record {
         answer = λ earlier st.
             let q = admitted-ok (line_fault c.args.line earlier (Some (body b))) (blocks_for (ciphers_in earlier) (bodies_in earlier ++ b ∷ []))
-            c.in-ok-blocks.blocks (facts.value earlier st) in
+            c.in_ok-blocks.blocks (facts.value earlier st) in
             sym (ap refused_by q.0);
         next = λ earlier st.
             let q = admitted-ok (line_fault c.args.line earlier (Some (body b))) (blocks_for (ciphers_in earlier) (bodies_in earlier ++ b ∷ []))
-            c.in-ok-blocks.blocks (facts.value earlier st) in
-            stands-body c.args.self.now c.args.area.now earlier st b c.keep.new.area c.in-ok-blocks.blocks
+            c.in_ok-blocks.blocks (facts.value earlier st) in
+            stands-body c.args.self.now c.args.area.now earlier st b c.keep.new.area c.in_ok-blocks.blocks
             facts.cipher facts.room facts.limit q.1 (c.keep.ensures.kept (bodies_in earlier) st.many st.kept);
       };
       rest =

@@ -35,7 +35,7 @@ returns-in_default c =
 pub invariant_of-self-2 : goal.invariant_of-self-2
 invariant_of-self-2 c =
     let e = lines-at-cut c.args.self.now.rest.now c.in-Some.text.now c.in-Some.rest.now (sym c.in-Some.ensures) in
-    (omega (arith, e.1), tt)
+    record { countable = omega (arith, e.1) }
 
 pub returns-in-Some-read_line : goal.returns-in-Some-read_line
 returns-in-Some-read_line c =
