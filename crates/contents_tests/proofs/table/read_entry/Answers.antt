@@ -4,8 +4,8 @@ use Rattle.contents_tests.proofs.table.read_entry.Goals as goal
 
 pub returns-in-Some : goal.returns-in-Some
 returns-in-Some c =
-    let p = split_text_parts (codes " | ") c.args.line.now c.split-once.result c.split-once.ensures.cases in search (rules, p)
+    let p = split_text_parts (codes " | ") c.args.line.now c.split_once.result c.split_once.ensures.cases in search (rules, p)
 
 pub returns-in-None : goal.returns-in-None
 returns-in-None c =
-    let p = split_text_parts (codes " | ") c.args.line.now c.split-once.result c.split-once.ensures.cases in search (rules, p)
+    let p = split_text_parts (codes " | ") c.args.line.now c.split_once.result c.split_once.ensures.cases in search (rules, p)

@@ -6,4 +6,4 @@ use Rattle.std.proofs.lemmas.Bool.Decides.{Decides-eqb}
 pub returns-then-eq : goal.returns-then-eq
 returns-then-eq c =
     let d = slice_eq-Decides Decides-eqb _ _ _ c.eq.ensures in
-    λ _. sym c.split-at.ensures.front ∙ d.0 c.if-eq.true
+    λ _. sym c.split_at.ensures.front ∙ d.0 c.if-eq.true
