@@ -1,5 +1,5 @@
 -- Lists of bytes, exclusive or of them, and blocks.
-use Rattle.std.proofs.Common.{◌≡◌, ℕ, zero, suc, ◌+◌, ◌<◌, ◌≤◌, min, List, [], ◌∷◌, ◌++◌, length, get_or, take, drop, sym, refl, ap, ◌∙◌, ap₂, arith}
+use Rattle.std.proofs.Common.{◌≡◌, ℕ, zero, suc, ◌<◌, min, List, [], ◌∷◌, ◌++◌, length, get_or, take, drop, sym, refl, ap, ◌∙◌, ap₂, arith}
 use lib.Bits.{bit_xor, xor_lt, xor_assoc, xor_self, xor_comm}
 use lib.Lanes.{zip2}
 use Rattle.std.proofs.ByRecursion.{All-from_get_or}

@@ -1,5 +1,6 @@
 // What a block cipher is, and the text of a key.
 #![tactic(auto)]
+
 ghost use Rattle.std.specs.Prelude.{◌≡◌, ℕ, ◌+◌, ◌/◌, ◌≤◌, List, length, replicate};
 ghost use Rattle.block.specs.Blocks.{Lawful, Meaning, Same, block_after, block_answer};
 ghost use Rattle.block.specs.Keys.{code_of, key_of};

@@ -1,5 +1,5 @@
 -- Fields that are filled from the front.
-use Rattle.std.proofs.Common.{◌≡◌, ℕ, ◌+◌, ◌-◌, ◌*◌, ◌/◌, ◌<◌, ◌≤◌, List, [], ◌∷◌, ◌++◌, length, get_or, take, drop, set, replicate, unwrap_or, sym, refl, ap, ◌∙◌, ap₂, append_assoc, append-nil, arith, length-append, length-drop}
+use Rattle.std.proofs.Common.{◌≡◌, ℕ, ◌+◌, ◌-◌, ◌*◌, ◌/◌, ◌<◌, ◌≤◌, List, [], ◌∷◌, ◌++◌, length, get_or, take, drop, set, replicate, unwrap_or, sym, refl, ap, ◌∙◌, ap₂, append_assoc, append-nil, arith, length-drop}
 use Rattle.std.proofs.lemmas.List.{length-take-le, take-append-drop, take_all, take_more, take_more_set, drop-set-lt, drop-drop, drop_more, drop-replicate}
 use Rattle.hex_digits.specs.Hex.{hex_value, hex_bytes}
 use Rattle.contents_format.specs.Layout.{filled}

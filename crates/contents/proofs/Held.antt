@@ -1,21 +1,19 @@
 -- Entries that are held: their bytes are those of the entries of their bodies, and the bodies are those of a sheet that passes.
-use Rattle.std.proofs.Common.{◌≡◌, ℕ, ◌+◌, ◌*◌, ◌<◌, ◌≤◌, Bool, true, false, ◌&&◌, eqb, ltb, leb, List, [], ◌∷◌, ◌++◌, map, length, get_or, take, Some, None, Decides, sym, refl, ap, ◌∙◌, subst, ap₂, append_assoc, append-nil, arith, length-append}
+use Rattle.std.proofs.Common.{◌≡◌, ℕ, ◌+◌, ◌<◌, ◌≤◌, true, ltb, List, [], ◌∷◌, ◌++◌, map, length, get_or, take, Some, Decides, sym, refl, ◌∙◌, ap₂, append_assoc, append-nil, arith}
 use lib.ListN.{length-map}
 use Rattle.std.specs.List.{flat_map, AllByRecursion as All}
-use Rattle.std.specs.Str.{bytes_eq}
 use Rattle.std.proofs.ByRecursion.{All-from_get_or, All-push, Decides-by_and}
 use Rattle.std.proofs.lemmas.Slice.Eq.{bytes_eq-Decides}
 use Rattle.std.proofs.lemmas.List.{length_push, length-take-le}
 use Rattle.std.proofs.lemmas.Bool.{and_parts, and_from, eqb-true, eq-eqb, leb-true, le-leb}
 use Rattle.std.proofs.lemmas.Bool.Decides.{Decides-ltb}
-use Rattle.sheet_format.specs.Lines.{is_name}
 use Rattle.sheet_format.specs.Orders.{BodyOrder}
 use Rattle.sheet_format.specs.Sizes.{block_length}
 use Rattle.sheet_format.specs.declared.CipherKind.{CipherKind}
 use Rattle.contents_format.specs.Layout.{entry_of, start_length}
-use Rattle.contents_format.specs.Reading.{entry_read, may_follow}
+use Rattle.contents_format.specs.Reading.{entry_read}
 use Rattle.contents_laws.proofs.Entries.{entry_found}
-use Rattle.contents_laws.proofs.Sound.{Fit, Sound, Next, sound_none, sound-push, next_of, next-decides}
+use Rattle.contents_laws.proofs.Sound.{Fit, Sound, sound_none, sound-push, next_of, next-decides}
 use Rattle.contents.specs.Entries.{body_in, bodies_in, bytes_in, are_bytes, is_fit, is_held, are_held, may_stand, is_contents}
 use Rattle.contents.specs.declared.entry.Entry.{Entry}
 

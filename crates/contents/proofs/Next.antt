@@ -1,16 +1,13 @@
 -- One entry more, behind those that were read.
-use Rattle.std.proofs.Common.{◌≡◌, ℕ, zero, suc, ◌+◌, ◌-◌, ◌*◌, ◌<◌, ◌≤◌, Bool, true, false, not, ◌&&◌, leb, List, [], ◌∷◌, ◌++◌, map, length, take, drop, set, Some, None, Ok, Err, Option, Result, sym, refl, ap, ◌∙◌, subst, arith}
+use Rattle.std.proofs.Common.{◌≡◌, ℕ, suc, ◌+◌, ◌-◌, ◌*◌, ◌<◌, ◌≤◌, Bool, true, false, not, ◌&&◌, List, [], ◌∷◌, ◌++◌, map, length, take, drop, set, Some, None, Ok, Err, Option, Result, sym, ap, ◌∙◌, arith}
 use lib.ListN.{length-map}
 use Rattle.std.proofs.lemmas.List.{length-take-le, map_push, take_more_set, drop-drop}
 use Rattle.std.proofs.lemmas.Bool.{and_right, le-leb, lt-leb}
 use Rattle.sheet_format.specs.Lines.{bind, given}
 use Rattle.sheet_format.specs.Orders.{BodyOrder, is_ctr, total_blocks}
-use Rattle.sheet_format.specs.Sizes.{blocks_of}
 use Rattle.contents_format.specs.Reading.{entry_read, name_in, ctr_start_in, may_follow, next_body, go_on, bodies_from}
 use Rattle.contents_format.specs.declared.ContentsFault.{ContentsFault}
 use Rattle.contents_format.specs.declared.ContentsFault.TheVariants.{Entry}
-use Rattle.contents_laws.proofs.Sound.{blocks-push}
-use Rattle.contents.specs.Entries as held
 use Rattle.contents.specs.Entries.{body_in, bodies_in}
 use Rattle.contents.specs.declared.entry.Entry as row
 

@@ -1,6 +1,6 @@
 -- Facts of every value of type Contents, from its invariant.
-use Rattle.std.proofs.Common.{◌≡◌, ℕ, ◌+◌, ◌-◌, ◌*◌, ◌<◌, ◌≤◌, Bool, true, cond, leb, List, [], ◌∷◌, ◌++◌, length, get_or, take, drop, Some, None, Ok, Option, sym, refl, ap, ◌∙◌, subst, ap₂, append_assoc, arith}
-use Rattle.std.specs.List.{flat_map, AllByRecursion as All, slice_get}
+use Rattle.std.proofs.Common.{◌≡◌, ℕ, ◌+◌, ◌*◌, ◌<◌, ◌≤◌, Bool, true, cond, List, [], ◌∷◌, ◌++◌, length, get_or, take, drop, Some, None, Ok, sym, refl, ap, ◌∙◌, subst, ap₂, arith}
+use Rattle.std.specs.List.{flat_map}
 use Rattle.std.proofs.ByRecursion.{All-get_or}
 use Rattle.std.proofs.lemmas.List.{length-take-le, get_or-take, take-append-drop}
 use Rattle.std.proofs.lemmas.Option.{slice_get-get_or, slice_get_past}
@@ -8,7 +8,7 @@ use Rattle.std.proofs.lemmas.Bool.{le-leb, lt-leb}
 use Rattle.sheet_format.specs.Orders.{BodyOrder}
 use Rattle.sheet_format.specs.Sizes.{block_length}
 use Rattle.contents_format.specs.BlockLengths as lengths
-use Rattle.contents_format.specs.Layout.{entry_of, header_of, contents_of}
+use Rattle.contents_format.specs.Layout.{entry_of, header_of}
 use Rattle.contents_format.specs.Reading.{contents_read}
 use Rattle.contents_laws.specs.Belonging.{FromSheet}
 use Rattle.contents_laws.proofs.Law.{length-entries, from-sound, read-if-from}

@@ -1,5 +1,6 @@
 // The contents of a set: what they hold, made from a sheet, written and read.
 #![tactic(auto)]
+
 ghost use Rattle.std.specs.Prelude.{◌≡◌, true};
 ghost use Rattle.contents.specs.Entries.{is_contents};
 

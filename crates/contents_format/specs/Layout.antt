@@ -1,5 +1,5 @@
 -- The contents of a set: a header of four bytes, then an entry of 56 bytes for each body.
-use Rattle.std.specs.Prelude.{ℕ, ◌+◌, ◌-◌, ◌/◌, ◌%◌, List, [], ◌∷◌, ◌++◌, length, replicate}
+use Rattle.std.specs.Prelude.{ℕ, ◌-◌, ◌/◌, ◌%◌, List, [], ◌∷◌, ◌++◌, length, replicate}
 use Rattle.std.specs.List.{flat_map}
 use Rattle.sheet_format.specs.Orders.{BodyOrder, Order}
 use Rattle.sheet_format.specs.Sizes.{block_length, start_digits}

@@ -1,5 +1,6 @@
 // What the contents of a set speak of: block lengths, and the fault for which contents are refused.
 #![tactic(auto)]
+
 ghost use Rattle.std.specs.Prelude.{◌≡◌, ℕ, ◌⊎◌};
 ghost use Rattle.contents_format.specs.BlockLengths.{bytes_of, nearest_to, with_bytes};
 ghost use Rattle.contents_format.specs.Faults.{code_of};

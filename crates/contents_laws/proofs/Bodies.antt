@@ -1,6 +1,6 @@
 -- Entries one after the other: what is read of them, and where reading stops.
-use Rattle.std.proofs.Common.{◌≡◌, ℕ, zero, suc, ◌+◌, ◌-◌, ◌*◌, ◌<◌, ◌≤◌, Bool, true, false, ◌⊎◌, List, [], ◌∷◌, ◌++◌, length, take, drop, Some, None, Ok, Err, Option, Result, sym, refl, ap, ◌∙◌, subst, ap₂, inl, inr, ⊎_elim, append_assoc, append-nil, arith, length-append, length-drop, take-add}
-use Rattle.std.specs.List.{flat_map, AllByRecursion as All}
+use Rattle.std.proofs.Common.{◌≡◌, ℕ, zero, suc, ◌+◌, ◌-◌, ◌*◌, ◌<◌, ◌≤◌, true, ◌⊎◌, List, [], ◌∷◌, ◌++◌, length, take, drop, Some, None, Ok, Err, Option, Result, sym, refl, ap, ◌∙◌, subst, ap₂, inl, inr, ⊎_elim, append_assoc, append-nil, arith, length-drop, take-add}
+use Rattle.std.specs.List.{flat_map}
 use Rattle.std.proofs.ByRecursion.{All-take, All-drop}
 use Rattle.std.proofs.lemmas.List.{length_push, length-take-le, nil_from_length, take-append-drop, take_at, drop_at}
 use Rattle.sheet_format.specs.Orders.{BodyOrder}
@@ -14,7 +14,7 @@ use Rattle.contents_format.specs.declared.ContentsFault.{ContentsFault}
 use Rattle.contents_format.specs.declared.ContentsFault.TheVariants.{Entry}
 use Rattle.contents_laws.proofs.Digits.{Bytes}
 use Rattle.contents_laws.proofs.Entries.{entry_found, length-entry, entry-made}
-use Rattle.contents_laws.proofs.Sound.{Fit, Sound, Next, sound-push, sound-front, next_of, next-decides}
+use Rattle.contents_laws.proofs.Sound.{Fit, Sound, Next, sound-push, next_of, next-decides}
 
 cases-option : {A : Type 0} (o : Option A) → (o ≡ None) ⊎ ((x : A) × (o ≡ Some x))
 cases-option None = inl refl

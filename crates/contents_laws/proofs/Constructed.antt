@@ -1,25 +1,23 @@
 -- A sheet for sound bodies: one cipher line, and a line for each body. It passes, and orders them.
-use Rattle.std.proofs.Common.{◌≡◌, ℕ, ◌+◌, ◌*◌, ◌/◌, ◌<◌, ◌≤◌, Bool, true, false, leb, ◌⊎◌, List, [], ◌∷◌, ◌++◌, map, length, codes, decimal, sym, refl, ap, ◌∙◌, subst, ap₂, inl, inr, ⊎_elim, arith, length-append}
+use Rattle.std.proofs.Common.{◌≡◌, ℕ, ◌+◌, ◌*◌, ◌<◌, ◌≤◌, true, false, leb, List, [], ◌∷◌, ◌++◌, map, length, codes, decimal, sym, refl, ap, ◌∙◌, subst, ap₂, inl, inr, ⊎_elim, arith, length-append}
 use lib.ListN.{length-map}
 use Rattle.std.specs.List.{flat_map, AllByRecursion as All}
 use Rattle.std.proofs.ByRecursion.{All-append, All-map, All-weaker}
 use Rattle.std.proofs.lemmas.Bool.{cases_lt, and_parts, leb-true, lt-ltb, le-ltb}
 use Rattle.hex_digits.specs.Hex.{hex_value, is_hex_digit, all_hex_digits, hex_bytes}
 use Rattle.sheet_format.specs.Digits.{is_decimal_digit}
-use Rattle.sheet_format.specs.Lines.{Body, Form, blank, comment, cipher, body, is_start, is_name, is_graphic}
-use Rattle.sheet_format.specs.Orders.{BodyOrder, Order, ordered, total_blocks}
+use Rattle.sheet_format.specs.Lines.{Body, Form, cipher, body, is_start, is_graphic}
+use Rattle.sheet_format.specs.Orders.{BodyOrder, ordered}
 use Rattle.sheet_format.specs.Sizes.{block_length, start_digits}
 use Rattle.sheet_format.specs.declared.CipherKind.{CipherKind}
 use Rattle.sheet_format.specs.declared.CipherKind.TheVariants.{Kuznyechik, Magma}
 use Rattle.sheet_format.specs.declared.Mode.{Mode}
 use Rattle.sheet_format.specs.declared.Mode.TheVariants.{Ctr, Cbc}
-use Rattle.sheet_laws.specs.Grammar.{HasForm, Written, body_text, cipher_word, mode_word, spaced}
+use Rattle.sheet_laws.specs.Grammar.{HasForm, body_text, cipher_word, mode_word, spaced}
 use Rattle.sheet_laws.specs.Meets.{Allowed}
 use Rattle.sheet_laws.specs.Passes as passes
 use Rattle.sheet_laws.specs.Passes.{Passes, NoTwo, counting}
-use Rattle.sheet_laws.proofs.Clash.{clash}
 use Rattle.sheet_laws.proofs.Forms.{start-digits, decimal-digits, name-bytes, mode-graphic, cipher-graphic}
-use Rattle.contents_format.specs.Layout.{start_length}
 use Rattle.contents_laws.proofs.Digits.{hex_digit, hex_text, bytes-of-text, digits-of-text, length-text, decimal-read, decimal-short, digit-of-value, some-value}
 use Rattle.contents_laws.proofs.Ordered.{two_digits, no_two-map}
 use Rattle.contents_laws.proofs.Sound.{Fit, Sound, SameName, SameStart, name-short}

@@ -1,18 +1,16 @@
 -- What contents say keeps the law of reading.
-use Rattle.std.proofs.Common.{◌≡◌, ℕ, zero, suc, ◌+◌, ◌-◌, ◌*◌, ◌<◌, ◌≤◌, min, Bool, true, false, cond, ◌&&◌, eqb, leb, ◌⊎◌, List, [], ◌∷◌, ◌++◌, length, take, drop, Some, None, Ok, Err, Option, Result, sym, refl, ap, ◌∙◌, subst, ap₂, inl, inr, ⊎_elim, arith, length-append, length-drop, length-take, take-add}
+use Rattle.std.proofs.Common.{◌≡◌, ℕ, zero, suc, ◌+◌, ◌*◌, ◌<◌, ◌≤◌, true, false, eqb, ◌⊎◌, List, [], ◌∷◌, ◌++◌, length, take, drop, Some, None, Ok, Err, Option, Result, sym, refl, ap, ◌∙◌, subst, ap₂, inl, inr, ⊎_elim, arith, length-append, take-add}
 use Rattle.std.specs.List.{flat_map, AllByRecursion as All}
 use Rattle.std.proofs.lemmas.List.{length-take-le, take-append-drop, take-take, take_at, take_all, drop_at}
-use Rattle.std.proofs.lemmas.Bool.{cases_Bool, cases_order, and_parts, and_from, and_cases, eqb-true, eqb-false, eq-eqb, leb-true, leb-false, le-leb}
-use Rattle.sheet_format.specs.Orders.{BodyOrder, Order, map_ok}
+use Rattle.std.proofs.lemmas.Bool.{cases_Bool, cases_order, and_parts, eqb-true, eqb-false, eq-eqb, leb-true, le-leb}
+use Rattle.sheet_format.specs.Orders.{BodyOrder, map_ok}
 use Rattle.sheet_format.specs.Sizes.{block_length}
 use Rattle.sheet_format.specs.declared.CipherKind.{CipherKind}
 use Rattle.sheet_format.specs.declared.CipherKind.TheVariants.{Kuznyechik, Magma}
-use Rattle.sheet_laws.specs.Grammar.{Iff}
-use Rattle.sheet_laws.specs.Passes.{Passes}
 use Rattle.sheet_laws.proofs.Clash.{clash}
 use Rattle.contents_format.specs.BlockLengths.{bytes_of, with_bytes}
 use Rattle.contents_format.specs.Layout.{entry_of, contents_of}
-use Rattle.contents_format.specs.Reading.{SetOrder, cipher_with, bodies_from, is_frame, said_of, framed, contents_read}
+use Rattle.contents_format.specs.Reading.{SetOrder, cipher_with, bodies_from, is_frame, said_of, contents_read}
 use Rattle.contents_format.specs.declared.BlockLength.{BlockLength}
 use Rattle.contents_format.specs.declared.BlockLength.TheVariants.{Eight, Sixteen}
 use Rattle.contents_format.specs.declared.ContentsFault.{ContentsFault}

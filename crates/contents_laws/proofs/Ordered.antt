@@ -1,20 +1,19 @@
 -- What a sheet that passes orders is sound.
-use Rattle.std.proofs.Common.{◌≡◌, ℕ, ◌+◌, ◌*◌, ◌/◌, ◌<◌, ◌≤◌, Bool, true, false, List, [], ◌∷◌, ◌++◌, map, length, sym, refl, ap, ◌∙◌, subst, arith}
+use Rattle.std.proofs.Common.{◌≡◌, ℕ, ◌*◌, ◌≤◌, true, false, List, [], ◌∷◌, map, length, sym, refl, ap, ◌∙◌, subst, arith}
 use lib.ListN.{length-map}
 use Rattle.std.specs.List.{flat_map, AllByRecursion as All}
 use Rattle.std.proofs.ByRecursion.{All-append, All-map, All-weaker}
 use Rattle.hex_digits.specs.Hex.{all_hex_digits, hex_bytes}
 use Rattle.sheet_format.specs.Lines.{Body, Form, blank, comment, cipher, body, is_start, is_name}
-use Rattle.sheet_format.specs.Orders.{BodyOrder, Order, ordered, total_blocks}
+use Rattle.sheet_format.specs.Orders.{Order, ordered}
 use Rattle.sheet_format.specs.Sizes.{block_length, start_digits}
 use Rattle.sheet_format.specs.declared.CipherKind.{CipherKind}
 use Rattle.sheet_format.specs.declared.CipherKind.TheVariants.{Kuznyechik, Magma}
 use Rattle.sheet_format.specs.declared.Mode.{Mode}
 use Rattle.sheet_format.specs.declared.Mode.TheVariants.{Ctr, Cbc}
-use Rattle.sheet_laws.specs.Grammar.{HasForm, Written}
+use Rattle.sheet_laws.specs.Grammar.{HasForm}
 use Rattle.sheet_laws.specs.Passes as passes
 use Rattle.sheet_laws.specs.Passes.{Passes, NoTwo, counting}
-use Rattle.sheet_laws.proofs.Clash.{clash}
 use Rattle.contents_format.specs.Layout.{start_length}
 use Rattle.contents_laws.specs.BodyLines.{FitLine}
 use Rattle.contents_laws.proofs.Digits.{hex_text, length-text, text-of-bytes}

@@ -1,5 +1,5 @@
 -- Which contents belong to a sheet that passes, and at which place other bytes are refused.
-use Rattle.std.specs.Prelude.{◌≡◌, ℕ, ◌+◌, ◌*◌, ◌<◌, ◌≤◌, ◌⊎◌, List, [], ◌∷◌, length, take, Ok, Err, Result}
+use Rattle.std.specs.Prelude.{◌≡◌, ℕ, ◌+◌, ◌*◌, ◌<◌, ◌≤◌, ◌⊎◌, List, ◌∷◌, length, take, Ok, Err, Result}
 use Rattle.std.specs.List.{AllByRecursion as All}
 use Rattle.contents_format.specs.Layout.{contents_of}
 use Rattle.contents_format.specs.Reading.{SetOrder, contents_read}

@@ -1,5 +1,6 @@
 // Runs `contents` on each case of the table on standard input, and says where it does another thing than the table.
 #![tactic(auto)]
+
 ghost use Rattle.std.specs.Prelude.{◌≡◌, ℕ, ◌+◌, ◌-◌, ◌^◌, ◌≤◌, min, false, IfOk, if◌then◌else◌};
 ghost use Rattle.contents_tests.specs.Agreement.{Agrees};
 

@@ -1,6 +1,5 @@
 -- Worked examples of Magma.
 use Rattle.std.specs.Prelude.{◌≡◌, ℕ, List, [], ◌∷◌}
-use Rattle.block.specs.Blocks.{Meaning}
 use Rattle.magma.specs.Magma.{row_at, t, g, magma}
 
 -- the key of the examples

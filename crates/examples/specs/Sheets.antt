@@ -1,8 +1,7 @@
 -- Worked examples of order sheets: whole sheet texts, with what `check` answers to each by its definition.
-use Rattle.std.specs.Prelude.{◌≡◌, ℕ, List, ◌++◌, Ok, Err, codes, Result}
+use Rattle.std.specs.Prelude.{◌≡◌, ℕ, List, ◌++◌, Ok, Err, codes}
 use Rattle.sheet_format.specs.Faults.{code_of}
 use Rattle.sheet_format.specs.Orders.{checked_of}
-use Rattle.sheet_format.specs.declared.Checked.{Checked}
 use Rattle.sheet_format.specs.declared.SheetFault.{SheetFault}
 use Rattle.sheet_format.specs.declared.SheetFault.TheVariants.{BadLength, TooManyBlocks}
 

@@ -1,5 +1,6 @@
 // Worked examples of the definitions, as theorems: the contract of each function here is a list of them.
 #![tactic(auto)]
+
 ghost use Rattle.examples.specs.KuznyechikValues.{KuznyechikExamples};
 ghost use Rattle.examples.specs.Listings.{ListingExamples};
 ghost use Rattle.examples.specs.MagmaValues.{MagmaExamples};

@@ -1,5 +1,6 @@
 // Prints what the order sheet on standard input orders, or the line `no LAYER NUMBER PLACE` if it is refused; the status is then 1.
 #![tactic(auto)]
+
 ghost use Rattle.std.specs.Prelude.{◌≤◌, length, IfOk};
 
 use anyhow::anyhow;

@@ -1,5 +1,6 @@
 // The text that the program `list` prints of an order sheet.
 #![tactic(auto)]
+
 ghost use Rattle.std.specs.Prelude.{◌≡◌, [], ◌∷◌, ◌++◌, map, is_ok, IfOk, Ok, codes, decimal, OnOk};
 ghost use Rattle.sheet_format.specs.Lines.{lines_of};
 ghost use Rattle.sheet_format.specs.Orders.{bodies_in, map_ok, order_of, ordered, summary};

@@ -1,11 +1,10 @@
 -- One line more: what it does to the state of `check`.
-use Rattle.std.proofs.Common.{◌≡◌, ℕ, ◌+◌, ◌-◌, ◌<◌, ◌≤◌, Bool, true, false, not, ◌&&◌, ◌⊎◌, List, [], ◌∷◌, ◌++◌, map, length, drop, is_some, Some, None, Ok, Err, Option, Result, sym, refl, ap, ◌∙◌, subst, ap₂, ⊎_elim, append-nil, arith}
+use Rattle.std.proofs.Common.{◌≡◌, ℕ, ◌+◌, ◌-◌, ◌<◌, ◌≤◌, Bool, true, false, not, ◌&&◌, ◌⊎◌, List, [], ◌∷◌, ◌++◌, map, length, drop, is_some, Some, None, Ok, Err, Option, sym, refl, ap, ◌∙◌, subst, ap₂, ⊎_elim, append-nil, arith}
 use Rattle.std.proofs.lemmas.List.{drop-drop, flat_map_more, length-map, length_push}
 use Rattle.std.specs.Option.{option_to_list}
 use Rattle.sheet_format.specs.Lines.{Body, Form, blank, comment, cipher, body, Line}
 use Rattle.sheet_format.specs.Orders.{ciphers_in, cipher_named, bodies_in, body_named, counts, none_counts, ordered, total_blocks, unless, map_ok, order_at_end, summary}
 use Rattle.sheet_format.specs.Sizes.{block_length, start_digits, blocks_of}
-use Rattle.sheet_format.specs.declared.Checked.{Checked}
 use Rattle.sheet_format.specs.declared.CipherKind.{CipherKind}
 use Rattle.sheet_format.specs.declared.CipherKind.TheVariants.{Kuznyechik, Magma}
 use Rattle.sheet_format.specs.declared.Mode.{Mode}

@@ -8,7 +8,7 @@ use Rattle.sheet_format.specs.declared.SheetFault.{SheetFault}
 use Rattle.sheet_format.specs.declared.SheetFault.TheVariants.{NoForm}
 use Rattle.sheet_laws.specs.Grammar.{HasForm}
 use Rattle.sheet_laws.proofs.Clash.{clash}
-use Rattle.sheet_lines.specs.Models.{form_model, next_of, result_model, step_of, tail_of, TakenLine}
+use Rattle.sheet_lines.specs.Models.{form_model, next_of, step_of, tail_of, TakenLine}
 use Rattle.sheet.specs.Progress.{Fits, refused_by}
 use Rattle.sheet_lines.specs.declared.line.Line.{Line}
 

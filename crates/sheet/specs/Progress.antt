@@ -1,5 +1,5 @@
 -- How the state of `check` stands to the lines that were read.
-use Rattle.std.specs.Prelude.{◌≡◌, ℕ, ◌+◌, ◌≤◌, not, List, [], ◌∷◌, ◌++◌, map, length, is_some, Some, None, Ok, Err, Option, Result, OnOk}
+use Rattle.std.specs.Prelude.{◌≡◌, ℕ, ◌≤◌, not, List, [], ◌∷◌, ◌++◌, map, length, is_some, Some, None, Ok, Err, Option, Result, OnOk}
 use Rattle.std.specs.Option.{option_to_list}
 use Rattle.sheet_format.specs.Lines.{Body, Form, blank, comment, cipher, body, Line}
 use Rattle.sheet_format.specs.Orders.{ciphers_in, bodies_in, none_counts, ordered, total_blocks, line_fault, unless}

@@ -1,5 +1,6 @@
 // `check`: whether an order sheet passes.
 #![tactic(auto)]
+
 mod checking;
 mod kept;
 mod progress;

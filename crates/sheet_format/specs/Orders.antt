@@ -1,9 +1,9 @@
 -- What a sheet orders, or the one fault for which it is refused.
-use Rattle.std.specs.Prelude.{ℕ, ◌+◌, ◌*◌, Bool, true, false, cond, not, ◌&&◌, ◌||◌, leb, List, [], ◌∷◌, ◌++◌, map, length, is_some, Some, None, Ok, Err, Option, Result, ◌==◌, nat_le, nat_lt}
+use Rattle.std.specs.Prelude.{ℕ, ◌+◌, Bool, true, false, cond, not, ◌&&◌, ◌||◌, leb, List, [], ◌∷◌, ◌++◌, map, length, is_some, Some, None, Ok, Err, Option, Result, ◌==◌, nat_le, nat_lt}
 use Rattle.std.specs.List.{flat_map}
 use Rattle.std.specs.Str.{bytes_eq}
 use Rattle.hex_digits.specs.Hex.{hex_bytes}
-use Rattle.sheet_format.specs.Lines.{Body, Form, blank, comment, cipher, body, Line, lines_of}
+use Rattle.sheet_format.specs.Lines.{Body, blank, comment, cipher, body, Line, lines_of}
 use Rattle.sheet_format.specs.Sizes.{block_length, start_digits, blocks_of}
 use Rattle.sheet_format.specs.declared.Checked.{Checked}
 use Rattle.sheet_format.specs.declared.CipherKind.{CipherKind}

@@ -1,5 +1,6 @@
 // What an order sheet speaks of: ciphers, modes, lengths, and the faults for which a sheet is refused.
 #![tactic(auto)]
+
 ghost use Rattle.std.specs.Prelude.{◌≡◌, ℕ, ◌*◌, ◌^◌, ◌<◌};
 ghost use Rattle.sheet_format.specs.Sizes.{block_length, start_digits, blocks_of, sealed_length};
 ghost use Rattle.sheet_format.specs.Faults.{code_of};

@@ -1,5 +1,6 @@
 // The laws of order sheets, each carried by the contract of a function that does nothing else.
 #![tactic(auto)]
+
 ghost use Rattle.std.specs.Prelude.{ℕ, List};
 ghost use Rattle.sheet_format.specs.Orders.{map_ok, order_of, summary};
 ghost use Rattle.sheet_laws.specs.CheckLaw.{CheckLaw};

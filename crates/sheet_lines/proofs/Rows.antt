@@ -1,8 +1,7 @@
 -- A sheet from its first byte 10 on.
-use Rattle.std.proofs.Common.{◌≡◌, ℕ, ◌+◌, ◌<◌, ◌≤◌, Bool, true, false, cond, eqb, List, [], ◌∷◌, ◌++◌, map, length, Some, None, Option, sym, refl, ap, ◌∙◌, subst, inr, ⊎_elim, arith, length-append}
-use Rattle.std.proofs.lemmas.List.{nil_from_length}
+use Rattle.std.proofs.Common.{◌≡◌, ℕ, ◌+◌, ◌<◌, true, false, eqb, List, [], ◌∷◌, ◌++◌, map, length, Some, None, Option, refl, ap, ◌∙◌, ⊎_elim, arith, length-append}
 use Rattle.std.proofs.lemmas.Bool.{cases_Bool, eqb-false}
-use Rattle.sheet_format.specs.Lines.{Row, ended, unended, on_first, rows_of, grown, cut_of, line_of, form_of, lines_of}
+use Rattle.sheet_format.specs.Lines.{unended, on_first, rows_of, grown, cut_of, line_of, form_of, lines_of}
 use Rattle.sheet_laws.specs.Grammar.{Lacks}
 use Rattle.sheet_laws.proofs.Clash.{clash}
 use Rattle.sheet_laws.proofs.Cuts.{cut-found}

@@ -1,5 +1,6 @@
 // Runs `sheet::check` on each sheet of the table on standard input, and says where it answers another thing than the table.
 #![tactic(auto)]
+
 ghost use Rattle.std.specs.Prelude.{◌≡◌, ℕ, ◌+◌, ◌-◌, ◌^◌, ◌≤◌, min, false, IfOk, if◌then◌else◌};
 ghost use Rattle.sheet_tests.specs.Agreement.{Agrees};
 

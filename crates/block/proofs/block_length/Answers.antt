@@ -1,4 +1,4 @@
-use Rattle.std.proofs.Common.{◌≡◌, ◌+◌, ◌/◌, ◌≤◌, ◌∙◌, ⊎_elim, arith}
+use Rattle.std.proofs.Common.{◌≡◌, ⊎_elim, arith}
 use Rattle.block.proofs.block_length.Goals as goal
 
 pub returns : goal.returns

@@ -1,5 +1,4 @@
-use Rattle.std.proofs.Common.{◌≡◌, true, false, sym, ◌∙◌, arith, length-set, rules}
-use Rattle.hex_digits.specs.Hex.{all_hex_digits, hex_bytes}
+use Rattle.std.proofs.Common.{arith, length-set, rules}
 use Rattle.block.proofs.KeyText.{both-digits, finished, next-byte, no-high, no-low, wrong-length}
 use Rattle.block.proofs.key_bytes.Goals as goal
 

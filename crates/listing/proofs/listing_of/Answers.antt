@@ -1,4 +1,4 @@
-use Rattle.std.proofs.Common.{◌≡◌, is_ok, sym, ap, ◌∙◌, rules}
+use Rattle.std.proofs.Common.{is_ok, sym, ap, ◌∙◌, rules}
 use Rattle.sheet_format.specs.Orders.{order_of}
 use Rattle.listing.specs.Listing.{answer_text}
 use Rattle.listing.proofs.Bodies.{answer-order, answer-fault}

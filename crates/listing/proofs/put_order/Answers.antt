@@ -1,4 +1,4 @@
-use Rattle.std.proofs.Common.{◌≡◌, vec_items, rules}
+use Rattle.std.proofs.Common.{vec_items, rules}
 use Rattle.listing.proofs.Bodies.{parts-listing}
 use Rattle.listing.proofs.put_order.Goals as goal
 

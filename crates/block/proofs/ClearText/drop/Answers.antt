@@ -1,4 +1,4 @@
-use Rattle.std.proofs.Common.{◌≡◌, ℕ, List, set, ap, ◌∙◌, arith}
+use Rattle.std.proofs.Common.{ℕ, List, set, ap, ◌∙◌, arith}
 use Rattle.std.proofs.lemmas.List.Edits.{fill_more}
 use Rattle.block.proofs.KeyText.{cleared}
 use Rattle.block.proofs.ClearText.drop.Goals as goal

@@ -1,4 +1,4 @@
-use Rattle.std.proofs.Common.{◌≡◌, ℕ, List, Some, None, ap, ◌∙◌, arith}
+use Rattle.std.proofs.Common.{ℕ, List, Some, ap, ◌∙◌, arith}
 use Rattle.std.specs.Option.{option_map}
 use Rattle.contents_format.specs.Layout.{entry_of}
 use Rattle.contents.proofs.OfContents.{body-found, body-past, entry-same}

@@ -1,4 +1,4 @@
-use Rattle.std.proofs.Common.{◌≡◌, ◌+◌, ◌-◌, ◌*◌, ◌<◌, ◌≤◌, length, sym, ap, ◌∙◌, arith, rules}
+use Rattle.std.proofs.Common.{◌≡◌, ◌+◌, ◌-◌, ◌*◌, ◌<◌, ◌≤◌, length, ◌∙◌, arith, rules}
 use Rattle.std.proofs.lemmas.Slice.{drop-put_mid}
 use Rattle.contents_format.specs.Layout.{header_of}
 use Rattle.contents.specs.Models.{said_by}

@@ -1,4 +1,4 @@
-use Rattle.std.proofs.Common.{◌≡◌, ℕ, List, get_or, sym, ◌∙◌, ap₂, arith}
+use Rattle.std.proofs.Common.{ℕ, List, get_or, sym, ◌∙◌, ap₂, arith}
 use Rattle.sheet_format.specs.Sizes.{block_length}
 use Rattle.contents_format.specs.Reading.{fields_hold}
 use Rattle.contents.proofs.EntryFields.{entry-refused, entry-accepted, entry-same}

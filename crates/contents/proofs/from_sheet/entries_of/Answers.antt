@@ -1,4 +1,4 @@
-use Rattle.std.proofs.Common.{◌≡◌, ◌+◌, ◌<◌, true, List, [], ◌++◌, map, length, take, sym, ap, ◌∙◌, subst, arith, length-set}
+use Rattle.std.proofs.Common.{◌≡◌, ◌<◌, true, List, [], map, length, take, sym, ap, ◌∙◌, subst, arith, length-set}
 use Rattle.std.proofs.lemmas.List.{take_more_set}
 use Rattle.sheet_format.specs.Lines.{lines_of}
 use Rattle.sheet_format.specs.Orders.{bodies_in as bodies_named, ordered}

@@ -1,4 +1,3 @@
-use Rattle.std.proofs.Common.{arith}
 use Rattle.contents_laws.proofs.Sound.{name-short}
 use Rattle.sheet_lines.specs.Models.{body_model}
 use Rattle.contents.proofs.Lines.{line-body, line-held}

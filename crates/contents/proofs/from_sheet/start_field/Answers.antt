@@ -1,4 +1,4 @@
-use Rattle.std.proofs.Common.{◌≡◌, ℕ, ◌+◌, ◌*◌, Option, unwrap_or, ap, ◌∙◌, ap₂, arith, length-set}
+use Rattle.std.proofs.Common.{ℕ, ◌+◌, ◌*◌, Option, unwrap_or, ap, ◌∙◌, ap₂, arith, length-set}
 use Rattle.contents.proofs.Filled.{start-more, start-filled, zeros-more}
 use Rattle.contents.proofs.from_sheet.start_field.Goals as goal
 

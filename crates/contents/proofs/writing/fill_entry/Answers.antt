@@ -1,4 +1,4 @@
-use Rattle.std.proofs.Common.{◌≡◌, ℕ, List, ◌∷◌, ◌++◌, length, ap, ◌∙◌, ap₂, rules}
+use Rattle.std.proofs.Common.{ℕ, List, ◌∷◌, ◌++◌, length, ap, ◌∙◌, ap₂, rules}
 use Rattle.contents.proofs.Written.{fields-written}
 use Rattle.contents.proofs.writing.fill_entry.Goals as goal
 

@@ -1,4 +1,4 @@
-use Rattle.std.proofs.Common.{take, sym, ap, ◌∙◌, arith, rules}
+use Rattle.std.proofs.Common.{take, sym, ap, ◌∙◌, arith}
 use Rattle.contents.specs.Models.{bytes_of}
 use Rattle.contents_tests.proofs.Trials.{written-front}
 use Rattle.contents_tests.proofs.trial.writes_to.Goals as goal

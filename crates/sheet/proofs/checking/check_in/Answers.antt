@@ -1,4 +1,4 @@
-use Rattle.std.proofs.Common.{◌≡◌, [], sym, ap, ◌∙◌}
+use Rattle.std.proofs.Common.{[], sym, ap, ◌∙◌}
 use Rattle.sheet_format.specs.Lines.{lines_of}
 use Rattle.sheet_format.specs.Orders.{bad_line, byte_fault, length_fault, map_ok, order_from, summary}
 use Rattle.sheet.proofs.Walk.{bytes-passed}

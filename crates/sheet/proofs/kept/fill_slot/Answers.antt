@@ -1,4 +1,4 @@
-use Rattle.std.proofs.Common.{◌≡◌, ℕ, ◌+◌, ◌-◌, List, length, set, ◌∙◌, ap₂}
+use Rattle.std.proofs.Common.{ℕ, ◌+◌, ◌-◌, List, length, set, ◌∙◌, ap₂}
 use borrow.Rule.Slice.PartMut.{put_mid}
 use Rattle.sheet.specs.Kept.{name_kept, start_kept}
 use Rattle.sheet.proofs.Slots.{name-filled, start-filled}

@@ -1,4 +1,3 @@
-use Rattle.std.proofs.Common.{arith}
 use Rattle.sheet_lines.proofs.Cuts.{cut-found, cut-more, cut-none}
 use Rattle.sheet_lines.proofs.fields.cut.Goals as goal
 

@@ -1,4 +1,4 @@
-use Rattle.std.proofs.Common.{ℕ, ◌<◌, List, length, ap, rules}
+use Rattle.std.proofs.Common.{◌<◌, length, ap, rules}
 use Rattle.std.proofs.lemmas.Slice.{first_rest}
 use Rattle.sheet_format.specs.Lines.{body_of}
 use Rattle.sheet_lines.proofs.line.read_body.Goals as goal

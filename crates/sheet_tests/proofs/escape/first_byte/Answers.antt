@@ -1,4 +1,4 @@
-use Rattle.std.proofs.Common.{ℕ, ◌<◌, List, length, ap, rules}
+use Rattle.std.proofs.Common.{◌<◌, length, ap, rules}
 use Rattle.std.proofs.lemmas.Slice.{first_rest}
 use Rattle.sheet_tests.specs.Escapes.{first_byte}
 use Rattle.sheet_tests.proofs.escape.first_byte.Goals as goal

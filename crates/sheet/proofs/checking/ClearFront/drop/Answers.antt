@@ -1,4 +1,4 @@
-use Rattle.std.proofs.Common.{◌≡◌, ℕ, List, set, ap, ◌∙◌, arith, length-set}
+use Rattle.std.proofs.Common.{ℕ, List, set, ap, ◌∙◌, arith, length-set}
 use Rattle.std.proofs.lemmas.List.Edits.{fill_more}
 use Rattle.sheet.proofs.Cleared.{fill-front}
 use Rattle.sheet.proofs.checking.ClearFront.drop.Goals as goal

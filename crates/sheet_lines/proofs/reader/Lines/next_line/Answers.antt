@@ -1,4 +1,4 @@
-use Rattle.std.proofs.Common.{◌≡◌, ◌-◌, ◌<◌, List, [], ◌∷◌, length, take, drop, Some, None, sym, ap, ◌∙◌, inl, inr, arith, length-drop, length-take, rules}
+use Rattle.std.proofs.Common.{◌≡◌, ◌-◌, ◌<◌, [], ◌∷◌, length, take, drop, Some, None, sym, ap, ◌∙◌, inl, inr, arith, length-drop, length-take, rules}
 use Rattle.std.proofs.lemmas.List.{nil_from_length}
 use Rattle.sheet_format.specs.Lines.{Line, lines_of}
 use Rattle.sheet_laws.proofs.Forms.{form-found}
