@@ -49,10 +49,9 @@ def code(line):
 def old_names():
     found = set()
     for path in files():
-        if path.endswith((".antt", ".edit")):
-            with open(path, encoding="utf-8") as f:
-                for line in f:
-                    found |= {w for w in WORD.findall(code(line)) if is_old(w)}
+        with open(path, encoding="utf-8") as f:
+            for line in f:
+                found |= {w for w in WORD.findall(STRING.sub("", code(line))) if is_old(w)}
     return {w: snake(w) for w in found}
 
 

@@ -1,5 +1,5 @@
 // Contents, read from their bytes.
-ghost use Rattle.std.specs.Prelude.{◌≡◌, ℕ, ◌+◌, ◌*◌, ◌≤◌, true, ◌&&◌, List, [], ◌∷◌, ◌++◌, length, length as listLength, take, IfSome, IfOk};
+ghost use Rattle.std.specs.Prelude.{◌≡◌, ℕ, ◌+◌, ◌*◌, ◌≤◌, true, ◌&&◌, List, [], ◌∷◌, ◌++◌, length, length as list_length, take, IfSome, IfOk};
 ghost use Rattle.std.specs.Option.{option_map};
 ghost use Rattle.std.specs.Str.{bytes_eq};
 ghost use Rattle.sheet_format.specs.Orders.{is_ctr, map_ok, total_blocks};
@@ -120,7 +120,7 @@ fn read_next(
 
 // Whether edition, number of bodies and total length are right.
 fn is_frame(edition: u8, count: usize, length: usize) -> bool
-    ensures value { (xs : List ℕ) → length ≡ listLength xs → result ≡ is_frame edition count xs }
+    ensures value { (xs : List ℕ) → length ≡ list_length xs → result ≡ is_frame edition count xs }
 {
     edition == 1 && 1 <= count && count <= MAX_BODIES && length == ENTRY * count
 }

@@ -1,5 +1,5 @@
 // Contents, written.
-ghost use Rattle.std.specs.Prelude.{◌≡◌, ℕ, ◌+◌, ◌*◌, ◌≤◌, [], ◌∷◌, ◌++◌, length, length as listLength, Ok};
+ghost use Rattle.std.specs.Prelude.{◌≡◌, ℕ, ◌+◌, ◌*◌, ◌≤◌, [], ◌∷◌, ◌++◌, length, length as list_length, Ok};
 ghost use Rattle.std.specs.Option.{option_map};
 ghost use Rattle.sheet_format.specs.Sizes.{block_length};
 ghost use Rattle.contents_format.specs.Layout.{entry_of, header_of, mode_number};
@@ -80,7 +80,7 @@ impl Contents {
 
     // How many bytes contents have.
     pub fn length(&self) -> usize
-        ensures value { result ≡ listLength (bytes_of self.now) }
+        ensures value { result ≡ list_length (bytes_of self.now) }
         ensures entries { result ≡ 4 + 56 * self.now.count }
     {
         HEADER + ENTRY * self.count
@@ -89,7 +89,7 @@ impl Contents {
     // Writes contents to the front of an output, and answers how many bytes they are; `None` where the output is too short,
     // which is then unchanged.
     pub fn write(&self, out: &mut [u8]) -> Option<usize>
-        ensures answer { result ≡ written_length (bytes_of self.now) (listLength out.old) }
+        ensures answer { result ≡ written_length (bytes_of self.now) (list_length out.old) }
         ensures output { out.new ≡ written (bytes_of self.now) out.old }
         ensures belongs { FromSheet (bytes_of self.now) (said_by self.now) }
         ensures read { contents_read (bytes_of self.now) ≡ Ok (said_by self.now) }

@@ -1,5 +1,5 @@
 // One case of the table.
-ghost use Rattle.std.specs.Prelude.{◌≡◌, ℕ, ◌<◌, ◌≤◌, true, length as listLength, take, IfOk, slice_index, slice_set};
+ghost use Rattle.std.specs.Prelude.{◌≡◌, ℕ, ◌<◌, ◌≤◌, true, length as list_length, take, IfOk, slice_index, slice_set};
 ghost use Rattle.sheet_format.specs.Orders.{map_ok};
 ghost use Rattle.contents.specs.Models.{bytes_of, said_by};
 ghost use Rattle.contents_format.specs.BlockLengths.{bytes_of as length_of};
@@ -27,7 +27,7 @@ fn all_are(bytes: &[u8], value: u8) -> bool {
 
 // Whether the bytes stand in front of an output that is as it was behind them.
 fn is_written(out: &[u8], length: usize, bytes: &[u8]) -> bool
-    requires { length ≤ listLength out.now }
+    requires { length ≤ list_length out.now }
     ensures { result ≡ true → take length out.now ≡ bytes.now }
 {
     let (front, rest) = out.split_at(length);
@@ -103,9 +103,9 @@ fn mark(answer: Result<Contents, ContentsFault>) -> u8
 
 // Whether the bytes with every value for the one at that place are answered as marked.
 fn byte_changes_as(marks: &[u8], at: usize, bytes: &[u8], changed: &mut [u8]) -> bool
-    requires place { at < listLength bytes.now }
-    requires marks { listLength marks.now ≡ 256 }
-    requires same { listLength changed.old ≡ listLength bytes.now }
+    requires place { at < list_length bytes.now }
+    requires marks { list_length marks.now ≡ 256 }
+    requires same { list_length changed.old ≡ list_length bytes.now }
     ensures { result ≡ true → ((v : ℕ) → v < 256 → mark_of (contents_read (slice_set bytes.now at v)) ≡ slice_index marks.now v) }
 {
     for value in 0..256usize {
@@ -120,7 +120,7 @@ fn byte_changes_as(marks: &[u8], at: usize, bytes: &[u8], changed: &mut [u8]) ->
 
 // Whether the bytes with every value for each of them are answered as marked, 256 marks a byte.
 fn changes_as(marks: &[u8], bytes: &[u8], changed: &mut [u8]) -> bool
-    requires { listLength changed.old ≡ listLength bytes.now }
+    requires { list_length changed.old ≡ list_length bytes.now }
     ensures { result ≡ true → Changes marks.now bytes.now }
 {
     if marks.len() / 256 != bytes.len() {
