@@ -1,4 +1,4 @@
-use Rattle.std.proofs.Common.{◌≡◌, ◌++◌, length, take, sym, refl, ap, ◌∙◌, subst, arith}
+use Rattle.std.proofs.Common.{◌≡◌, length, sym, refl, ap, ◌∙◌, subst, arith}
 use Rattle.modes.specs.CtrState.{JoinedCtr}
 use Rattle.bodies.proofs.Bodies.{front_of, first_of, room-ok}
 use Rattle.bodies.proofs.sealing.feed_ctr.Goals as goal

@@ -1,4 +1,4 @@
-use Rattle.std.proofs.Common.{◌≡◌, ℕ, ◌-◌, length, take, sym, ap, ◌∙◌, subst, arith}
+use Rattle.std.proofs.Common.{◌≡◌, ℕ, ◌-◌, take, subst, arith}
 use Rattle.modes.specs.MacState.{AbsorbedMac}
 use Rattle.bodies.proofs.Bodies.{sealing-fed}
 use Rattle.bodies.proofs.sealing.BodySealer.feed.Goals as goal
