@@ -1,6 +1,7 @@
 // Runs ctr, cbc and the MAC on each vector of the table on standard input, cut into pieces as the vector says, and says where they
 // do another thing than the table.
 #![tactic(auto)]
+
 ghost use Rattle.std.specs.Prelude.{◌≡◌, ◌≤◌, false, ◌||◌, IfOk};
 ghost use Rattle.hex_digits.specs.Hex.{hex_bytes};
 ghost use Rattle.kuznyechik_spec.specs.Kuznyechik.{kuznyechik};
