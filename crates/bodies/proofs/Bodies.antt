@@ -1,16 +1,14 @@
 -- How a body is sealed piece by piece.
-use Rattle.std.proofs.Common.{◌≡◌, ℕ, zero, suc, ◌+◌, ◌-◌, ◌*◌, ◌/◌, ◌%◌, ◌<◌, ◌≤◌, Bool, true, false, cond, List, [], ◌∷◌, ◌++◌, length, take, drop, Ok, Err, Result, sym, refl, ap, ◌∙◌, subst, ap₂, ⊎_elim, arith}
+use Rattle.std.proofs.Common.{◌≡◌, ℕ, suc, ◌+◌, ◌-◌, ◌/◌, ◌<◌, ◌≤◌, List, [], ◌++◌, length, take, drop, Ok, Err, Result, sym, ap, ◌∙◌, subst, ap₂, arith}
 use native.Mathlib.Nat.{zero-div, div-eq_of_lt}
 use borrow.Rule.Slice.PartMut.{post_of}
 use Rattle.std.proofs.lemmas.List.{append-nil, append_assoc, take_at, drop_at}
 use Rattle.std.proofs.lemmas.Bool.{cond_above}
-use Rattle.block.specs.Blocks.{Block, Bytes, Meaning, Lawful, Same}
-use Rattle.modes_spec.specs.Cbc.{chained, cbc_blocks}
+use Rattle.block.specs.Blocks.{Meaning, Lawful, Same}
+use Rattle.modes_spec.specs.Cbc.{chained}
 use Rattle.modes_spec.specs.Ctr.{joined_with, counter_stream}
 use Rattle.modes_spec.specs.Texts.{◌⊕◌, block_at, joined_to, zeros}
 use Rattle.modes_spec.proofs.Cbc.{size-pos}
-use Rattle.modes.specs.CtrState.{CtrAt}
-use Rattle.modes.specs.CbcState.{CbcAt}
 use Rattle.modes.specs.MacState.{MacAt, AbsorbedMac, BegunMac, FinishedMac}
 use Rattle.modes.proofs.Macs.{mac-long}
 use Rattle.modes.proofs.Streams.{same_then}
@@ -23,7 +21,6 @@ use Rattle.bodies.specs.SealingState.{SealingAt, ModeAt, FinishedMode, room_answ
 use Rattle.bodies.specs.declared.sealing.ShortOutput.{ShortOutput}
 use Rattle.bodies.specs.declared.sealing.BodySealer.{BodySealer}
 use Rattle.bodies.specs.declared.sealing.SealingMode.{SealingMode}
-use Rattle.bodies.specs.declared.sealing.SealingMode.TheVariants as held
 
 -- of an empty text nothing is sealed
 pub nothing-sealed : (mode : Mode) (c : Meaning) (start : List ℕ) → Lawful c → sealed_front mode c start [] ≡ []

@@ -1,5 +1,5 @@
 -- How a body is opened piece by piece.
-use Rattle.std.proofs.Common.{◌≡◌, ℕ, List, [], ◌∷◌, ◌++◌, length, take, drop, sym, refl, ap, ◌∙◌, subst}
+use Rattle.std.proofs.Common.{◌≡◌, ℕ, List, [], ◌++◌, sym, subst}
 use Rattle.std.proofs.lemmas.List.{append-nil, append_assoc}
 use Rattle.block.specs.Blocks.{Meaning, Lawful, Same}
 use Rattle.modes.specs.OpenState as cbc

@@ -15,7 +15,7 @@ use Rattle.bodies.specs.declared.opening.BodyOpener.{BodyOpener}
 use Rattle.bodies.specs.declared.opening.OpeningMode.{OpeningMode}
 use Rattle.bodies.specs.declared.opening.OpeningMode.TheVariants as held
 use Rattle.bodies.specs.declared.opening.ProveFault.{ProveFault}
-use Rattle.bodies.specs.declared.opening.ProveFault.TheVariants.{Tag, Filling, Incomplete}
+use Rattle.bodies.specs.declared.opening.ProveFault.TheVariants.{Filling, Incomplete}
 use Rattle.bodies.specs.declared.opening.TakeFault.{TakeFault}
 use Rattle.bodies.specs.declared.opening.TakeFault.TheVariants.{ShortOutput, TooLong}
 

@@ -1,5 +1,5 @@
 -- What a body that is being sealed holds, by the bytes that were fed to it.
-use Rattle.std.specs.Prelude.{◌≡◌, ℕ, ◌+◌, ◌/◌, ◌%◌, cond, List, [], ◌++◌, length, take, drop, Ok, Err, Result, nat_lt}
+use Rattle.std.specs.Prelude.{◌≡◌, ℕ, ◌+◌, ◌/◌, ◌%◌, cond, List, [], ◌++◌, take, drop, Ok, Err, Result, nat_lt}
 use Rattle.block.specs.Blocks.{Meaning, Lawful, Same}
 use Rattle.modes_spec.specs.Mac.{mac}
 use Rattle.modes.specs.CtrState.{CtrAt, JoinedCtr}

@@ -1,4 +1,5 @@
 // One body of a set, enciphered and tagged piece by piece.
 #![tactic(auto)]
+
 pub mod opening;
 pub mod sealing;

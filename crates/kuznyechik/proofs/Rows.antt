@@ -4,7 +4,7 @@ use mathlib.Core.List.{List, [], ◌∷◌, ◌++◌}
 use Prim.Native.Nat.{ℕ, zero, suc, ◌+◌, ◌-◌, ◌*◌, ◌<◌, ◌≤◌}
 use native.Mathlib.Omega.{arith}
 use lib.ListN.{length, drop, take, set, length-drop}
-use Rattle.kuznyechik_spec.specs.Kuznyechik.{iteration_constant, Halves, halves, feistel_round, feistel_rounds, schedule, round_keys}
+use Rattle.kuznyechik_spec.specs.Kuznyechik.{Halves, halves, feistel_rounds, schedule, round_keys}
 use Rattle.kuznyechik_spec.proofs.Loops.{whole}
 
 -- two rows more

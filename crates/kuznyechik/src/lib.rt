@@ -1,5 +1,6 @@
 // The block cipher Kuznyechik, plain: each transformation of the standard is a function.
 #![tactic(auto)]
+
 ghost use Rattle.std.specs.Prelude.{◌≡◌};
 ghost use Rattle.block.specs.Blocks.{Same};
 ghost use Rattle.kuznyechik_spec.specs.Kuznyechik.{kuznyechik};

@@ -1,5 +1,6 @@
 // The block cipher Kuznyechik by two tables: the same E and D as the plain one, faster.
 #![tactic(auto)]
+
 ghost use Rattle.std.specs.Prelude.{map, ◌≡◌};
 ghost use Rattle.block.specs.Blocks.{Same};
 ghost use Rattle.kuznyechik_spec.specs.Kuznyechik.{block_of, decipher, encipher, kuznyechik};

@@ -1,6 +1,7 @@
 // Measures the modes and the MAC: `mode_bench MEGABYTES` prints how many megabytes a second each of them goes over, in pieces of
 // 4,096 bytes. With no argument it says so, and measures nothing.
 #![tactic(auto)]
+
 ghost use Rattle.std.specs.Prelude.{◌≡◌, ◌-◌, ◌*◌, ◌/◌, ◌^◌, min, max};
 ghost use Rattle.block.specs.Blocks.{Same};
 

@@ -1,5 +1,5 @@
 -- A trial that shows no difference.
-use Rattle.std.proofs.Common.{◌≡◌, ℕ, Bool, true, false, not, ◌||◌, List, vec_items, sym, refl, ap, ◌∙◌, subst, ap₂}
+use Rattle.std.proofs.Common.{◌≡◌, ℕ, Bool, true, false, not, ◌||◌, List, sym, refl, ap, ◌∙◌, subst, ap₂}
 use Rattle.std.proofs.lemmas.Bool.{or_parts}
 use Rattle.block.specs.Blocks.{Block, Meaning, Same}
 use Rattle.mode_tests.specs.Agreement.{AgreesMac, AgreesSealed, ConfirmsMac, ConfirmsSealed, MacInputOf, SealedInputOf, differs_mac, differs_sealed, sealed_by, whole_mac}

@@ -1,5 +1,5 @@
 -- A text that is sealed or opened in pieces, with the MAC of what is sealed.
-use Rattle.std.specs.Prelude.{◌≡◌, ℕ, ◌+◌, ◌-◌, ◌*◌, List, [], ◌++◌, length, take, Ok, vec_items, Result, ◌==◌}
+use Rattle.std.specs.Prelude.{◌≡◌, ℕ, ◌+◌, ◌-◌, ◌*◌, List, ◌++◌, length, take, Ok, vec_items, Result, ◌==◌}
 use Rattle.block.specs.Blocks.{Meaning, Same}
 use Rattle.modes_spec.specs.Cbc.{cbc_sealed, opened_block}
 use Rattle.modes_spec.specs.Ctr.{ctr}

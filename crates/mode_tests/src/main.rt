@@ -1,6 +1,7 @@
 // Runs ctr, cbc and the MAC on each vector of the table on standard input, cut into pieces as the vector says, and says where they
 // do another thing than the table.
 #![tactic(auto)]
+
 ghost use Rattle.std.specs.Prelude.{◌≡◌, ◌≤◌, false, ◌||◌, IfOk};
 ghost use Rattle.hex_digits.specs.Hex.{hex_bytes};
 ghost use Rattle.kuznyechik_spec.specs.Kuznyechik.{kuznyechik};
@@ -178,6 +179,6 @@ fn run_table(rt: &HostRuntime) -> anyhow::Result<Tally>
 
 fn main(rt: HostRuntime) -> anyhow::Result<()> {
     let Tally { vectors, differ } = run_table(&rt)?;
-    (println!(rt; "{vectors} vectors, {differ} differ"))?;
+    println!(rt; "{vectors} vectors, {differ} differ")?;
     Ok(())
 }

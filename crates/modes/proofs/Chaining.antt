@@ -1,16 +1,16 @@
 -- How a chaining register goes on.
-use Rattle.std.proofs.Common.{◌≡◌, ℕ, zero, suc, ◌+◌, ◌-◌, ◌*◌, ◌/◌, ◌%◌, ◌<◌, ◌≤◌, min, Bool, true, cond, eqb, List, [], ◌∷◌, ◌++◌, length, get_or, take, drop, set, sym, refl, ap, ◌∙◌, subst, ap₂, ⊎_elim, mul_comm, mul-zero, mul-suc, add-one, arith, take-add}
+use Rattle.std.proofs.Common.{◌≡◌, ℕ, suc, ◌+◌, ◌-◌, ◌*◌, ◌/◌, ◌%◌, ◌<◌, ◌≤◌, Bool, cond, List, [], ◌∷◌, ◌++◌, length, get_or, take, drop, set, sym, ap, ◌∙◌, ap₂, mul_comm, mul-zero, mul-suc, arith, take-add}
 use borrow.Rule.Slice.PartMut.{put_mid, post_of}
 use lib.Bits.{bit_xor}
 use Rattle.std.proofs.lemmas.Nat.{div-mul-add, mod-mul-add}
 use Rattle.std.proofs.ByRecursion.{All-append}
-use Rattle.std.proofs.lemmas.List.{append-nil, append_assoc, length-append, length-take, length-drop, take_at, drop_at, take_all, take-take, drop-take, drop_all, drop-append-le, length-replicate}
+use Rattle.std.proofs.lemmas.List.{append-nil, length-append, length-take, length-drop, take_at, drop_at, take_all, take-take, drop-take, drop_all, drop-append-le, length-replicate}
 use Rattle.std.proofs.lemmas.Bool.{eq-eqb}
 use Rattle.block.specs.Blocks.{Block, Meaning, Lawful, Same, block_after, Bytes}
 use Rattle.block.proofs.Bytes.{xor-list-comm}
 use Rattle.modes_spec.specs.Cbc.{chained}
 use Rattle.modes_spec.specs.Texts.{◌⊕◌, block_at, joined_front, zeros, filled}
-use Rattle.modes_spec.proofs.Cbc.{block-xor, block-whole, chained_append, chained-block, size-pos, zeros-bytes}
+use Rattle.modes_spec.proofs.Cbc.{block-xor, block-whole, chained_append, chained-block, zeros-bytes}
 use Rattle.modes_spec.proofs.Texts.{length-joined-front, joined-front-more, joined-front-whole, take-joined-front, joined-one}
 use Rattle.modes.specs.ChainState.{ChainAt}
 use Rattle.modes.specs.declared.chain.Chain.{Chain}

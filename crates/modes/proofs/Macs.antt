@@ -1,10 +1,10 @@
 -- How a MAC goes on, and how it ends.
-use Rattle.std.proofs.Common.{◌≡◌, ℕ, zero, suc, ◌+◌, ◌-◌, ◌*◌, ◌/◌, ◌%◌, ◌<◌, ◌≤◌, min, Bool, true, false, cond, eqb, leb, List, [], ◌∷◌, ◌++◌, length, get_or, take, drop, set, replicate, sym, refl, ap, ◌∙◌, subst, ap₂, ⊎_elim, mod-eq_of_lt, mul_comm, mul-zero, arith, take-add}
+use Rattle.std.proofs.Common.{◌≡◌, ℕ, suc, ◌+◌, ◌-◌, ◌*◌, ◌/◌, ◌%◌, ◌<◌, ◌≤◌, min, Bool, true, false, cond, leb, List, [], ◌∷◌, ◌++◌, length, get_or, take, drop, set, replicate, sym, refl, ap, ◌∙◌, subst, ap₂, ⊎_elim, mod-eq_of_lt, mul_comm, arith, take-add}
 use native.Mathlib.Nat.{zero-div}
 use borrow.Rule.Slice.PartMut.{post_of}
 use lib.Bits.{bit_xor}
 use Rattle.std.proofs.ByRecursion.{All-take, All-drop}
-use Rattle.std.proofs.lemmas.List.{append_assoc, length-append, length-take, length-drop, length-replicate, take-replicate, take_rest, take_at, drop-append-le, drop-replicate}
+use Rattle.std.proofs.lemmas.List.{append_assoc, length-take, length-drop, length-replicate, take-replicate, take_rest, take_at, drop-append-le, drop-replicate}
 use Rattle.std.proofs.lemmas.Nat.{mod-mul-add}
 use Rattle.std.proofs.lemmas.Bool.{leb-true, leb-false, eq-eqb, ne_eqb, cases_lt}
 use Rattle.block.proofs.Bytes.{xor-list-comm}

@@ -1,13 +1,13 @@
 -- How cbc goes on piece by piece, and how it ends.
-use Rattle.std.proofs.Common.{◌≡◌, ℕ, zero, suc, ◌+◌, ◌-◌, ◌*◌, ◌/◌, ◌%◌, ◌<◌, ◌≤◌, min, Bool, true, false, cond, List, [], ◌∷◌, ◌++◌, length, get_or, take, drop, set, Ok, Err, Result, sym, refl, ap, ◌∙◌, subst, ap₂, ⊎_elim, mod-lt, mod-eq_of_lt, mul_comm, mul-le-mul_left, mul-suc, add-one, arith, take-add}
+use Rattle.std.proofs.Common.{◌≡◌, ℕ, suc, ◌+◌, ◌-◌, ◌*◌, ◌/◌, ◌%◌, ◌<◌, ◌≤◌, min, List, [], ◌∷◌, ◌++◌, length, get_or, take, drop, set, Ok, Err, Result, sym, refl, ap, ◌∙◌, subst, ap₂, mod-lt, mod-eq_of_lt, mul_comm, mul-le-mul_left, mul-suc, add-one, arith, take-add}
 use native.Mathlib.Nat.{zero-div}
 use borrow.Rule.Slice.PartMut.{put_mid, post_of}
 use lib.Bits.{bit_xor}
 use Rattle.std.proofs.lemmas.Nat.{div-mul-add, div-add-mod', le-div}
 use Rattle.std.proofs.ByRecursion.{All-take, All-drop}
-use Rattle.std.proofs.lemmas.List.{append_assoc, append-nil, length-append, length-take, length-drop, take_rest, take_at, drop_at, drop_all, drop-drop}
+use Rattle.std.proofs.lemmas.List.{append_assoc, length-take, take_rest, take_at, drop_at, drop_all, drop-drop}
 use Rattle.std.proofs.lemmas.Slice.{take-put_mid, drop-put_mid}
-use Rattle.block.specs.Blocks.{Block, Meaning, Lawful, Same, Bytes}
+use Rattle.block.specs.Blocks.{Meaning, Lawful, Same, Bytes}
 use Rattle.modes_spec.specs.Cbc.{chained, cbc_blocks, cbc_sealed}
 use Rattle.modes_spec.specs.Texts.{joined_front, joined_to, filled, zeros}
 use Rattle.modes_spec.proofs.Cbc.{size-pos, cbc-append}

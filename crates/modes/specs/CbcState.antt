@@ -1,5 +1,5 @@
 -- What cbc that is fed in pieces holds, by the text that it has taken in so far.
-use Rattle.std.specs.Prelude.{◌≡◌, ℕ, ◌+◌, ◌*◌, ◌/◌, ◌%◌, cond, List, [], ◌++◌, length, take, drop, Ok, Err, Result, nat_lt}
+use Rattle.std.specs.Prelude.{◌≡◌, ℕ, ◌+◌, ◌*◌, ◌/◌, cond, List, [], ◌++◌, length, take, drop, Ok, Err, Result, nat_lt}
 use Rattle.block.specs.Blocks.{Meaning, Lawful, Same}
 use Rattle.modes_spec.specs.Cbc.{cbc_blocks, cbc_sealed}
 use Rattle.modes.specs.ChainState.{ChainAt}

@@ -1,5 +1,5 @@
 -- What cbc that is opened in pieces holds, by the cipher text that it has taken in so far.
-use Rattle.std.specs.Prelude.{◌≡◌, ℕ, ◌+◌, ◌-◌, ◌*◌, ◌/◌, ◌%◌, ◌<◌, ◌≤◌, min, Bool, true, cond, ◌&&◌, List, [], ◌∷◌, ◌++◌, length, take, drop, Ok, Err, Result, ◌==◌, nat_lt, slice_index}
+use Rattle.std.specs.Prelude.{◌≡◌, ℕ, ◌+◌, ◌-◌, ◌*◌, ◌/◌, ◌%◌, ◌≤◌, min, Bool, true, cond, ◌&&◌, List, [], ◌∷◌, ◌++◌, length, take, drop, Ok, Err, Result, ◌==◌, nat_lt, slice_index}
 use Rattle.block.specs.Blocks.{Block, Meaning, Lawful, Same, Bytes}
 use Rattle.modes_spec.specs.Cbc.{register_at, opened_block, opened_blocks}
 use Rattle.modes_spec.specs.Texts.{zeros}

@@ -1,5 +1,6 @@
 // The modes ctr and cbc and the MAC over any block cipher. Each takes its input in pieces of any length.
 #![tactic(auto)]
+
 mod bytes;
 pub mod cbc;
 mod chain;

@@ -1,13 +1,12 @@
 -- Chaining: it does not look ahead, it makes blocks, and opening undoes it.
-use Rattle.std.proofs.Common.{◌≡◌, ℕ, zero, suc, ◌+◌, ◌-◌, ◌*◌, ◌/◌, ◌%◌, ◌<◌, ◌≤◌, min, List, [], ◌∷◌, ◌++◌, length, take, drop, sym, refl, ap, ◌∙◌, ap₂, ⊎_elim, mod-lt, mul_comm, mul-le-mul_left, mul-zero, mul-suc, add-one, arith}
+use Rattle.std.proofs.Common.{◌≡◌, ℕ, zero, suc, ◌+◌, ◌-◌, ◌*◌, ◌/◌, ◌%◌, ◌<◌, ◌≤◌, List, ◌∷◌, ◌++◌, length, take, sym, refl, ap, ◌∙◌, ap₂, ⊎_elim, mod-lt, mul_comm, mul-le-mul_left, mul-suc, add-one, arith}
 use native.Mathlib.Nat.{mul-div_cancel_left}
-use lib.Bits.{bit_xor}
 use Rattle.std.proofs.lemmas.Nat.{div-add-mod'}
 use Rattle.std.proofs.ByRecursion.{All-append}
 use Rattle.std.proofs.lemmas.List.{length-append, length-replicate, take_at, take_all}
 use Rattle.block.specs.Blocks.{Block, Meaning, Lawful, Bytes}
 use Rattle.block.proofs.Bytes.{bytes-xor, length-xor, xor-self-list, xor-list-comm}
-use Rattle.modes_spec.specs.Texts.{◌⊕◌, block_at, joined_to, filled, zeros}
+use Rattle.modes_spec.specs.Texts.{◌⊕◌, block_at, filled, zeros}
 use Rattle.modes_spec.specs.Cbc.{chained, cbc_blocks, cbc_sealed, register_at, opened_block, opened_blocks, cbc_opened}
 use Rattle.modes_spec.proofs.Texts.{bytes-block, length-block, block-append, joined_same, length-joined, joined-blocks, block-joined}
 

@@ -1,15 +1,14 @@
 -- Joining with a keystream, byte by byte, and ctr.
-use Rattle.std.proofs.Common.{◌≡◌, ℕ, zero, suc, ◌+◌, ◌-◌, ◌*◌, ◌/◌, ◌%◌, ◌^◌, ◌<◌, ◌≤◌, min, ◌⊎◌, List, [], ◌∷◌, ◌++◌, length, get_or, take, drop, sym, refl, ap, ◌∙◌, ap₂, ⊎_elim, add_assoc, mod-lt, mul_comm, mul-zero, mul-suc, add-one, arith, take-add}
+use Rattle.std.proofs.Common.{◌≡◌, ℕ, zero, suc, ◌+◌, ◌-◌, ◌*◌, ◌/◌, ◌%◌, ◌^◌, ◌<◌, ◌≤◌, ◌⊎◌, List, [], ◌∷◌, ◌++◌, length, get_or, take, drop, sym, refl, ap, ◌∙◌, ap₂, ⊎_elim, add_assoc, mod-lt, mul_comm, mul-zero, mul-suc, arith, take-add}
 use lib.Bits.{bit_xor, xor_comm}
 use Rattle.std.proofs.lemmas.Nat.{div-add-mod', div-mul-add, mod-mul-add}
 use Rattle.std.proofs.ByRecursion.{All-append}
-use Rattle.std.proofs.lemmas.List.{append-nil, length-append, length-take, length-drop, take_at, drop_at, take_all, drop_all, drop_more}
+use Rattle.std.proofs.lemmas.List.{length-append, length-take, take_at, drop_at, take_all, drop_all, drop_more}
 use Rattle.std.proofs.lemmas.Bool.{cases_lt}
-use Rattle.block.specs.Blocks.{Block, Meaning, Lawful, Bytes}
-use Rattle.block.proofs.Bytes.{xor-twice, xor-list-comm}
+use Rattle.block.specs.Blocks.{Block, Meaning, Lawful}
+use Rattle.block.proofs.Bytes.{xor-twice}
 use Rattle.modes_spec.specs.Texts.{◌⊕◌, block_at, blocks_in, joined_to, big_endian}
-use Rattle.modes_spec.specs.Ctr.{joined_with, counter_block, counter_stream, ctr}
-use Rattle.modes_spec.proofs.Cbc.{size-pos}
+use Rattle.modes_spec.specs.Ctr.{joined_with, counter_block, counter_stream}
 use Rattle.modes_spec.proofs.Numbers.{length-big_endian, bytes-big_endian, same-from-big_endian}
 
 -- ---- a keystream by its bytes

@@ -1,5 +1,5 @@
 -- A text is filled in one way only.
-use Rattle.std.proofs.Common.{◌≡◌, ℕ, zero, suc, List, [], ◌∷◌, ◌++◌, sym, refl, ap, ◌∙◌, ap₂, arith}
+use Rattle.std.proofs.Common.{◌≡◌, ℕ, zero, suc, List, [], ◌∷◌, ◌++◌, refl, ap₂, arith}
 use Rattle.modes_spec.specs.Texts.{zeros}
 
 -- zeros have no byte 80

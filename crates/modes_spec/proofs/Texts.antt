@@ -1,5 +1,5 @@
 -- The blocks of a text, and texts put together from blocks.
-use Rattle.std.proofs.Common.{◌≡◌, ℕ, zero, suc, ◌+◌, ◌-◌, ◌*◌, ◌/◌, ◌%◌, ◌<◌, ◌≤◌, min, List, [], ◌∷◌, ◌++◌, length, get_or, take, drop, set, sym, refl, ap, ◌∙◌, ap₂, ⊎_elim, mul_comm, mul-le-mul_left, mul-zero, mul-suc, add-one, arith, take-add}
+use Rattle.std.proofs.Common.{◌≡◌, ℕ, zero, suc, ◌+◌, ◌-◌, ◌*◌, ◌<◌, ◌≤◌, List, [], ◌∷◌, ◌++◌, length, get_or, take, drop, set, sym, refl, ap, ◌∙◌, ap₂, ⊎_elim, mul-le-mul_left, mul-zero, mul-suc, add-one, arith, take-add}
 use borrow.Rule.Slice.PartMut.{put_mid, post_of}
 use lib.Bits.{bit_xor, xor_lt, xor_zero_r}
 use Rattle.std.proofs.ByRecursion.{All-take, All-drop, All-append}

@@ -1,6 +1,7 @@
 // The modes ctr and cbc and the MAC as the standard defines them. The definitions are in specs; each function here carries a
 // theorem about them.
 #![tactic(auto)]
+
 ghost use Rattle.modes_spec.specs.Laws.{CbcOpensWhatItSealed, CounterBlocksApart, CtrUndoesItself, FilledInOneWay};
 
 // What ctr enciphered, ctr deciphers; it keeps the length.

@@ -1,5 +1,6 @@
 // What a set speaks of: the faults for which its calls are refused, and in specs what a set is.
 #![tactic(auto)]
+
 ghost use Rattle.std.specs.Prelude.{◌≡◌};
 ghost use Rattle.set_format.specs.Faults.{code_of};
 ghost use Rattle.set_format.specs.declared.SetFault.TheVariants.{Sheet};

@@ -1,5 +1,6 @@
 // Bytes and keys of test tables, which are written in hexadecimal digits.
 #![tactic(auto)]
+
 ghost use Rattle.std.specs.Prelude.{◌≡◌, IfOk};
 ghost use Rattle.hex_digits.specs.Hex.{hex_bytes};
 

@@ -4,7 +4,7 @@ use Prim.Native.Nat.{◌+◌}
 use native.Mathlib.Omega.{arith}
 use lib.ListN.{drop, get_or}
 use Rattle.kuznyechik_spec.specs.Kuznyechik.{add_key, block_of, encipher, lsx}
-use Rattle.kuznyechik_spec.proofs.Bytes.{block-from}
+use Rattle.block.proofs.Bytes.{block-from}
 use Rattle.kuznyechik_spec.proofs.Rounds.{encipher-more, encipher-last}
 use Rattle.kuznyechik_spec.proofs.Words.{block_of-number, block_of-xor, get_or-blocks, length-blocks}
 use Rattle.kuznyechik_tables.proofs.encipher_block.Goals as goal
@@ -12,7 +12,7 @@ use Rattle.kuznyechik_tables.proofs.encipher_block.Goals as goal
 pub loop-i-init : goal.loop-i-init
 loop-i-init c =
     let a = c.args.a.now in
-    ap (encipher (map block_of c.args.keys.now)) (ap block_of c.to-number-b.ensures ∙ block_of-number a (block-from 16 a c.told-a c.fits-a))
+    ap (encipher (map block_of c.args.keys.now)) (ap block_of c.to_number-b.ensures ∙ block_of-number a (block-from 16 a c.told-a c.fits-a))
 
 pub loop-i-preserved : goal.loop-i-preserved
 loop-i-preserved c =
@@ -29,5 +29,5 @@ returns c =
     let rows = map block_of ks in
     let b = block_of c.loop-i.b in
     let nine : 9 ≡ c.loop-i.i = omega arith in
-    c.to-block.ensures ∙ block_of-xor c.loop-i.b (get_or ks 9 0) ∙ ap (λ k. add_key k b) (sym (get_or-blocks ks 9 (omega arith)))
+    c.to_block.ensures ∙ block_of-xor c.loop-i.b (get_or ks 9 0) ∙ ap (λ k. add_key k b) (sym (get_or-blocks ks 9 (omega arith)))
     ∙ encipher-last rows 9 b (length-blocks ks ∙ omega arith) ∙ ap (λ i. encipher (drop i rows) b) nine ∙ c.loop-i.invariant

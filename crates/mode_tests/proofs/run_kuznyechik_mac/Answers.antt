@@ -1,4 +1,4 @@
-use Rattle.std.proofs.Common.{◌≡◌, false, sym, ◌∙◌, rules}
+use Rattle.std.proofs.Common.{◌≡◌, sym, ◌∙◌, rules}
 use Rattle.std.proofs.lemmas.Bool.{or_parts}
 use Rattle.block.specs.Blocks.{Same}
 use Rattle.hex_digits.specs.Hex.{hex_bytes}
@@ -12,9 +12,9 @@ pub returns : goal.returns
 returns c =
     let v = c.args.vector in
     let m = kuznyechik (hex_bytes v.key.now) in
-    let t = c.try-mac-plain-trial.result in
+    let t = c.try_mac-plain_trial.result in
     let e : Same (meaning_of c.prepare-plain.result) m = search rules in
-    let d : c.in-ok-plain-differs.plain-differs ≡ differs_mac t = search rules in
+    let d : c.in_ok-plain_differs.plain_differs ≡ differs_mac t = search rules in
     λ u.
-    let p = or_parts c.in-ok-plain-differs.plain-differs c.in-ok-tables-differ.tables-differ (sym c.either-differs.ensures ∙ u) in
-    agrees-mac m _ v c.in-ok-input.input t c.in-ok-input.ensures c.try-mac-plain-trial.ensures e (sym d ∙ p.0)
+    let p = or_parts c.in_ok-plain_differs.plain_differs c.in_ok-tables_differ.tables_differ (sym c.either-differs.ensures ∙ u) in
+    agrees-mac m _ v c.in_ok-input.input t c.in_ok-input.ensures c.try_mac-plain_trial.ensures e (sym d ∙ p.0)

@@ -1,4 +1,4 @@
-use Rattle.std.proofs.Common.{◌≡◌, false, sym, ◌∙◌, rules}
+use Rattle.std.proofs.Common.{◌≡◌, sym, ◌∙◌, rules}
 use Rattle.block.specs.Blocks.{Same}
 use Rattle.hex_digits.specs.Hex.{hex_bytes}
 use Rattle.kuznyechik_spec.specs.Kuznyechik.{kuznyechik}
@@ -14,8 +14,8 @@ returns c =
     let v = c.args.vector in
     let m = magma (hex_bytes v.key.now) in
     let o = kuznyechik (hex_bytes v.tag_key.now) in
-    let t = c.in-ok-trial.trial in
+    let t = c.in_ok-trial.trial in
     let e : Same (meaning_of c.prepare-cipher.result) m = search rules in
-    let f : Same (tables.meaning_of c.prepare-tag-cipher.result) o = search rules in
-    let d : c.in-ok-differs.differs ≡ differs_sealed t = search rules in
-    λ u. agrees-sealed c.args.mode m o _ _ v c.in-ok-input.input t c.in-ok-input.ensures c.in-ok-trial.ensures e f (sym d ∙ u)
+    let f : Same (tables.meaning_of c.prepare-tag_cipher.result) o = search rules in
+    let d : c.in_ok-differs.differs ≡ differs_sealed t = search rules in
+    λ u. agrees-sealed c.args.mode m o _ _ v c.in_ok-input.input t c.in_ok-input.ensures c.in_ok-trial.ensures e f (sym d ∙ u)

@@ -1,4 +1,4 @@
-use Rattle.std.proofs.Common.{◌≡◌, false, sym, ◌∙◌, rules}
+use Rattle.std.proofs.Common.{◌≡◌, sym, ◌∙◌, rules}
 use Rattle.block.specs.Blocks.{Same}
 use Rattle.hex_digits.specs.Hex.{hex_bytes}
 use Rattle.magma.specs.Magma.{magma}
@@ -11,7 +11,7 @@ pub returns : goal.returns
 returns c =
     let v = c.args.vector in
     let m = magma (hex_bytes v.key.now) in
-    let t = c.try-mac-trial.result in
+    let t = c.try_mac-trial.result in
     let e : Same (meaning_of c.prepare-cipher.result) m = search rules in
-    let d : c.in-ok-differs.differs ≡ differs_mac t = search rules in
-    λ u. agrees-mac m _ v c.in-ok-input.input t c.in-ok-input.ensures c.try-mac-trial.ensures e (sym d ∙ u)
+    let d : c.in_ok-differs.differs ≡ differs_mac t = search rules in
+    λ u. agrees-mac m _ v c.in_ok-input.input t c.in_ok-input.ensures c.try_mac-trial.ensures e (sym d ∙ u)

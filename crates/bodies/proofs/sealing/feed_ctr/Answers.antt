@@ -1,4 +1,4 @@
-use Rattle.std.proofs.Common.{◌≡◌, ◌++◌, length, take, sym, refl, ap, ◌∙◌, subst, arith}
+use Rattle.std.proofs.Common.{◌≡◌, length, sym, refl, ap, ◌∙◌, subst, arith}
 use Rattle.modes.specs.CtrState.{JoinedCtr}
 use Rattle.bodies.proofs.Bodies.{front_of, first_of, room-ok}
 use Rattle.bodies.proofs.sealing.feed_ctr.Goals as goal
@@ -8,9 +8,9 @@ returns g c =
     let cipher = g.C.BlockCipher.meaning c.args.cipher.now in
     let piece = c.args.piece.now in
     let len = length piece in
-    let C = c.copy-from-slice.new.self in
+    let C = c.copy_from_slice.new.self in
     let Y = c.apply.new.bytes in
-    let ec : C ≡ piece = c.copy-from-slice.ensures.after in
+    let ec : C ≡ piece = c.copy_from_slice.ensures.after in
     let lc : length C ≡ len = ap length ec in
     let first = first_of len c.args.out.now C lc in
     let ly : length Y ≡ len = c.apply.auto.bytes ∙ ap length first ∙ lc in

@@ -6,7 +6,5 @@ use Rattle.kuznyechik.proofs.keys.round_keys.Goals as goal
 
 pub invariant_of-result : goal.invariant_of-result
 invariant_of-result c =
-    let key = c.args.key.now in (
-      ap are_blocks c.key_schedule-keys.ensures ∙ blocks_to (round_keys key) (round_keys-blocks key (block-from 32 key c.told-key c.fits-key)),
-      tt,
-    )
+    let key = c.args.key.now in
+    record { ok = ap are_blocks c.key_schedule-keys.ensures ∙ blocks_to (round_keys key) (round_keys-blocks key (block-from 32 key c.told-key c.fits-key)) }

@@ -11,11 +11,11 @@ use Rattle.kuznyechik_tables.proofs.tables.inverse_round.Goals as goal
 pub returns : goal.returns
 returns c =
     let a = block_of c.args.state in
-    let t = c.inverse-table.result.now in
+    let t = c.inverse_table.result.now in
     let mixed : block_of c.lookup-mixed.result ≡ inverse_l a =
-    inverse-word t c.inverse-table.ensures c.args.state c.lookup-mixed.result (c.lookup-mixed.ensures ∙ ap (lookup_sum t) c.to-block.ensures) in
+    inverse-word t c.inverse_table.ensures a (block_of-block c.args.state) c.lookup-mixed.result (c.lookup-mixed.ensures ∙ ap (lookup_sum t) c.to_block.ensures) in
     let whole : Block 16 (inverse_s (inverse_l a)) = inverse_s-block (inverse_l a) (inverse_l-block a (block_of-block c.args.state)) in
-    block_of-xor c.to-number.result c.args.key
+    block_of-xor c.to_number.result c.args.key
     ∙ ap (add_key (block_of c.args.key))
-    (ap block_of (c.to-number.ensures ∙ ap (number 0) (c.inverse-s-bytes.ensures ∙ ap inverse_s (c.to-block-2.ensures ∙ mixed)))
+    (ap block_of (c.to_number.ensures ∙ ap (number 0) (c.inverse_s-bytes.ensures ∙ ap inverse_s (c.to_block-2.ensures ∙ mixed)))
     ∙ block_of-number (inverse_s (inverse_l a)) whole)

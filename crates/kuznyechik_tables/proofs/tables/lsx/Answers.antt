@@ -5,5 +5,5 @@ use Rattle.kuznyechik_tables.proofs.tables.lsx.Goals as goal
 
 pub returns : goal.returns
 returns c =
-    round-word c.round-table.result.now c.round-table.ensures c.args.state c.args.key c.lookup.result
-    (c.lookup.ensures ∙ ap (lookup_sum c.round-table.result.now) c.to-block.ensures)
+    round-word c.round_table.result.now c.round_table.ensures c.args.state c.args.key c.lookup.result
+    (c.lookup.ensures ∙ ap (lookup_sum c.round_table.result.now) c.to_block.ensures)

@@ -8,7 +8,7 @@ use Rattle.mode_tests.proofs.cbc_runs.seal.Given as goal
 abbrev pub invariant-loop-cut : goal.invariant-loop-cut
 invariant-loop-cut g l =
     let m = g.C.BlockCipher.meaning l.initial.cipher in
-    let o = g.T.BlockCipher.meaning l.initial.tag-cipher in
+    let o = g.T.BlockCipher.meaning l.initial.tag_cipher in
     Same m (g.C.BlockCipher.meaning l.cipher)
-    × Same o (g.T.BlockCipher.meaning l.tag-cipher)
+    × Same o (g.T.BlockCipher.meaning l.tag_cipher)
     × Fed (λ taken. (p q : Meaning) → Same p m → Same q o → CbcAt p (take p.size l.start) taken l.sealer × TaggedAt q (sealed_so_far p (take p.size l.start) taken) l.out) l.rest l.text

@@ -8,13 +8,13 @@ use Rattle.mode_tests.proofs.cbc_runs.seal_end.Goals as goal
 pub returns : goal.returns
 returns g c =
     let k = c.in-Ok.count in
-    let after : c.as-slice.result.now ≡ take k c.finish.new.out =
-    c.as-slice.ensures.value ∙ c.truncate.ensures.items ∙ ap (take k) (take_at c.finish.new.out _ _ (omega arith)) in
+    let after : c.as_slice.result.now ≡ take k c.finish.new.out =
+    c.as_slice.ensures.value ∙ c.truncate.ensures.items ∙ ap (take k) (take_at c.finish.new.out _ _ (omega arith)) in
     record {
       sealed = λ m o iv taken s t at out.
-          let e : cbc_sealed m iv taken ≡ sealed_so_far m iv taken ++ c.as-slice.result.now =
+          let e : cbc_sealed m iv taken ≡ sealed_so_far m iv taken ++ c.as_slice.result.now =
           c.in-Ok.ensures.after.0 m iv taken s at ∙ ap (λ (x : List ℕ). sealed_so_far m iv taken ++ x) (sym after) in
-          subst (λ (x : List ℕ). TaggedAt o x c.push.new.self) (sym e) (c.in-ok-push.ensures.pushed o (sealed_so_far m iv taken) t out);
+          subst (λ (x : List ℕ). TaggedAt o x c.push.new.self) (sym e) (c.in_ok-push.ensures.pushed o (sealed_so_far m iv taken) t out);
       same = c.finish.ensures.same;
       tag_same = c.push.ensures.same;
     }

@@ -9,7 +9,7 @@ use Rattle.mode_tests.proofs.ctr_runs.run.Given as goal
 abbrev pub invariant-loop-cut : goal.invariant-loop-cut
 invariant-loop-cut g l =
     let m = g.C.BlockCipher.meaning l.initial.cipher in
-    let o = g.T.BlockCipher.meaning l.initial.tag-cipher in
+    let o = g.T.BlockCipher.meaning l.initial.tag_cipher in
     Same m (g.C.BlockCipher.meaning l.cipher)
-    × Same o (g.T.BlockCipher.meaning l.tag-cipher)
+    × Same o (g.T.BlockCipher.meaning l.tag_cipher)
     × Fed (λ taken. (p q : Meaning) → Same p m → Same q o → CtrAt p (take (p.size / 2) l.start) taken l.stream × TaggedAt q (ctr p (take (p.size / 2) l.start) taken) l.out) l.rest l.text

@@ -1,4 +1,3 @@
-use Rattle.std.proofs.Common.{◌++◌}
 use Rattle.block.specs.Blocks.{Meaning, Same}
 use Rattle.modes.proofs.Streams.{same_then}
 use Rattle.modes.specs.MacState.{MacAt}
@@ -20,7 +19,7 @@ loop-cut-preserved g c =
       same_then m _ _ s c.absorb.ensures.same,
       fed-piece (λ taken. (o : Meaning) → Same o m → MacAt o taken c.loop-cut.state) (λ taken. (o : Meaning) → Same o m → MacAt o taken c.absorb.new.self)
           _ _ c.loop-cut.rest.now c.args.text.now
-          c.cut-off.ensures.joined (λ taken h o e. c.absorb.ensures.absorbed o taken (same_then o m _ e s) (h o e)) c.loop-cut.invariant.1,
+          c.cut_off.ensures.joined (λ taken h o e. c.absorb.ensures.absorbed o taken (same_then o m _ e s) (h o e)) c.loop-cut.invariant.1,
     )
 
 pub returns : goal.returns

@@ -1,4 +1,4 @@
-use Rattle.std.proofs.Common.{◌≡◌, length, ap, ◌∙◌, arith}
+use Rattle.std.proofs.Common.{ap, ◌∙◌, arith}
 use Rattle.modes_spec.specs.Texts.{joined_front}
 use Rattle.std.proofs.lemmas.List.{take_all}
 use Rattle.modes_spec.proofs.Texts.{joined-front-step}

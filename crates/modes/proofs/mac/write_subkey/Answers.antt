@@ -1,4 +1,4 @@
-use Rattle.std.proofs.Common.{◌≡◌, ◌<◌, true, false, cond, length, sym, ap, ◌∙◌, arith}
+use Rattle.std.proofs.Common.{arith}
 use Rattle.modes_spec.proofs.Cbc.{size-pos}
 use Rattle.modes.proofs.mac.write_subkey.Goals as goal
 
@@ -7,9 +7,3 @@ double-requires g c =
     let m = g.C.BlockCipher.meaning c.args.cipher.now in
     let pos = size-pos m (g.met.C.BlockCipher.lawful c.args.cipher.now) in
     omega (arith, pos, c.requires, c.fill.auto.self, c.encipher.auto.block)
-
-pub double-requires-then-not-whole : goal.double-requires-then-not-whole
-double-requires-then-not-whole g c κs =
-    let m = g.C.BlockCipher.meaning c.args.cipher.now in
-    let pos = size-pos m (g.met.C.BlockCipher.lawful c.args.cipher.now) in
-    omega (arith, pos, c.requires, c.fill.auto.self, c.encipher.auto.block, c.double.auto.block)

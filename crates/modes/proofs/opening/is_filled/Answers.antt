@@ -1,4 +1,4 @@
-use Rattle.std.proofs.Common.{◌≡◌, ◌+◌, true, cond, ◌&&◌, sym, refl, ap, ◌∙◌, arith, rules}
+use Rattle.std.proofs.Common.{◌+◌, ap, rules}
 use Rattle.std.proofs.lemmas.List.{take_rest}
 use Rattle.modes.specs.OpenState.{all_zeros}
 use Rattle.modes.proofs.opening.is_filled.Goals as goal

@@ -4,7 +4,7 @@ use Rattle.bodies.proofs.opening.BodyOpener.take.Goals as goal
 pub returns : goal.returns
 returns g c =
     let tag = g.T.BlockCipher.meaning c.args.tag.now in
-    let e = c.in-ok-written.ensures in
+    let e = c.in_ok-written.ensures in
     record {
       answer = e.answer;
       after = (

@@ -1,4 +1,4 @@
-use Rattle.std.proofs.Common.{◌≡◌, length, take, Ok, sym, ap, ◌∙◌, subst}
+use Rattle.std.proofs.Common.{length, take, Ok, sym, ap, ◌∙◌, subst}
 use Rattle.bodies.specs.OpeningState.{TakenMode, take_answer, with_fault}
 use Rattle.bodies.specs.declared.opening.OpeningMode.{OpeningMode}
 use Rattle.bodies.specs.declared.opening.OpeningMode.TheVariants as held

@@ -1,4 +1,4 @@
-use Rattle.std.proofs.Common.{◌≡◌, ℕ, ◌-◌, length, take, sym, ap, ◌∙◌, subst, arith}
+use Rattle.std.proofs.Common.{◌≡◌, ℕ, ◌-◌, take, subst, arith}
 use Rattle.modes.specs.MacState.{AbsorbedMac}
 use Rattle.bodies.proofs.Bodies.{sealing-fed}
 use Rattle.bodies.proofs.sealing.BodySealer.feed.Goals as goal
@@ -8,8 +8,8 @@ returns g c =
     let cipher = g.C.BlockCipher.meaning c.args.cipher.now in
     let tag = g.T.BlockCipher.meaning c.args.tag.now in
     let s = c.args.self.now in
-    let k = c.in-ok-written.written in
-    let e = c.in-ok-written.ensures in
+    let k = c.in_ok-written.written in
+    let e = c.in_ok-written.ensures in
     let z : k - 0 ≡ k = omega arith in
     let took : AbsorbedMac tag s.mac (take k c.feed.new.out) c.absorb.new.self =
     subst (λ (x : ℕ). AbsorbedMac tag s.mac (take x c.feed.new.out) c.absorb.new.self) z c.absorb.ensures.absorbed in

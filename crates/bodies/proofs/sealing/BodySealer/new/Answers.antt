@@ -1,8 +1,7 @@
-use Rattle.std.proofs.Common.{◌≡◌, ℕ, ◌*◌, ◌/◌, List, [], take, sym, ap, ◌∙◌, subst, arith}
+use Rattle.std.proofs.Common.{◌≡◌, ℕ, ◌*◌, ◌/◌, [], take, sym, subst, arith}
 use Rattle.block.specs.Blocks.{Meaning, Lawful}
 use Rattle.modes.specs.CbcState.{CbcAt}
 use Rattle.sheet_format.specs.declared.Mode.{Mode}
-use Rattle.sheet_format.specs.declared.Mode.TheVariants.{Ctr, Cbc}
 use Rattle.bodies.specs.SealingState.{ModeAt, start_of}
 use Rattle.bodies.specs.declared.sealing.SealingMode.{SealingMode}
 use Rattle.bodies.specs.declared.sealing.SealingMode.TheVariants as held

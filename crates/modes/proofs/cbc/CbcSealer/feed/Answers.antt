@@ -1,4 +1,4 @@
-use Rattle.std.proofs.Common.{◌≡◌, ℕ, ◌+◌, ◌*◌, ◌/◌, ◌%◌, ◌≤◌, length, take, sym, ap, ◌∙◌, subst, mul_comm, arith}
+use Rattle.std.proofs.Common.{◌≡◌, ℕ, ◌+◌, ◌*◌, ◌/◌, ◌%◌, ◌≤◌, length, take, ap, ◌∙◌, subst, mul_comm, arith}
 use Rattle.modes.specs.CbcState.{SealedCbc, sealed_next}
 use Rattle.modes.proofs.Sealing.{fed-settled, out-ok}
 use Rattle.modes.proofs.cbc.CbcSealer.feed.Goals as goal

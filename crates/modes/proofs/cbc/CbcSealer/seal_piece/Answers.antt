@@ -1,9 +1,7 @@
-use Rattle.std.proofs.Common.{◌≡◌, ℕ, suc, ◌+◌, ◌-◌, ◌*◌, ◌/◌, ◌<◌, ◌≤◌, List, ◌++◌, length, take, sym, ap, ◌∙◌, subst, mul-suc, arith}
+use Rattle.std.proofs.Common.{◌≡◌, ℕ, suc, ◌+◌, ◌*◌, ◌/◌, ◌<◌, ◌≤◌, ◌++◌, length, take, sym, ap, ◌∙◌, subst, mul-suc, arith}
 use Rattle.std.proofs.lemmas.List.{take_all}
-use Rattle.block.specs.Blocks.{Same}
 use Rattle.modes.specs.CbcState.{CbcAt, SealedCbc, sealed_so_far}
-use Rattle.modes.specs.declared.chain.Chain.{Chain}
-use Rattle.modes.proofs.Sealing.{JoinedCbc, sealing-joined, sealed-short, sealed-block, block_written, room_for, all-sealed}
+use Rattle.modes.proofs.Sealing.{sealing-joined, sealed-short, sealed-block, block_written, room_for, all-sealed}
 use Rattle.modes.proofs.Streams.{same_then, run-within}
 use Rattle.modes.proofs.cbc.CbcSealer.seal_piece.Goals as goal
 

@@ -1,4 +1,4 @@
-use Rattle.std.proofs.Common.{◌≡◌, ◌-◌, ◌≤◌, List, ◌++◌, length, take, drop}
+use Rattle.std.proofs.Common.{◌≡◌, ◌-◌, ◌≤◌, length, take, drop}
 use Rattle.block.specs.Blocks.{Same}
 use Rattle.modes.specs.CtrState.{JoinedCtr}
 use Rattle.modes.proofs.ctr.CtrStream.apply.Given as goal

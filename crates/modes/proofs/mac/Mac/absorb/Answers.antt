@@ -1,8 +1,7 @@
-use Rattle.std.proofs.Common.{◌≡◌, ◌<◌, ◌++◌, length, take, sym, ap, ◌∙◌, subst, arith}
+use Rattle.std.proofs.Common.{◌≡◌, ◌++◌, take, sym, subst, arith}
 use Rattle.std.proofs.lemmas.List.{take_all}
 use Rattle.block.specs.Blocks.{Same}
 use Rattle.modes.specs.MacState.{MacAt}
-use Rattle.modes.specs.declared.chain.Chain.{Chain}
 use Rattle.modes.specs.declared.mac.Mac.{Mac}
 use Rattle.modes.proofs.Macs.{Ready, ready-advanced, ready-already, absorbed-turn}
 use Rattle.modes.proofs.Streams.{same_then}

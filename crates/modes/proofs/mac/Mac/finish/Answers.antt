@@ -1,6 +1,5 @@
-use Rattle.std.proofs.Common.{◌≡◌, ℕ, Bool, true, false, cond, leb, List, get_or, set, sym, refl, ap, ◌∙◌, arith}
+use Rattle.std.proofs.Common.{◌≡◌, ℕ, Bool, cond, leb, List, get_or, set, sym, ap, ◌∙◌}
 use lib.Bits.{bit_xor}
-use Rattle.block.specs.Blocks.{Meaning, Same}
 use Rattle.std.proofs.lemmas.Bool.{le-leb, lt-leb}
 use Rattle.modes_spec.specs.Texts.{joined_front}
 use Rattle.modes.specs.declared.chain.Chain.{Chain}

@@ -1,4 +1,4 @@
-use Rattle.std.proofs.Common.{◌≡◌, ℕ, ◌-◌, ◌≤◌, Bool, true, false, cond, List, ◌++◌, length, take, Ok, Err, Result, sym, refl, ap, ◌∙◌, ap₂, arith, length-take}
+use Rattle.std.proofs.Common.{◌≡◌, ℕ, ◌-◌, ◌≤◌, Bool, true, false, cond, List, ◌++◌, length, take, Ok, Err, Result, sym, ap, ◌∙◌, arith, length-take}
 use Rattle.modes_spec.specs.Cbc.{opened_block}
 use Rattle.modes_spec.specs.Texts.{zeros}
 use Rattle.modes.specs.OpenState.{last_answer, fills}

@@ -1,4 +1,4 @@
-use Rattle.std.proofs.Common.{◌≡◌, ℕ, ◌+◌, ◌*◌, ◌/◌, ◌≤◌, min, length, take, sym, ap, ◌∙◌, subst, ap₂, arith}
+use Rattle.std.proofs.Common.{◌≡◌, ℕ, ◌+◌, ◌*◌, ◌≤◌, length, take, ap, ◌∙◌, subst}
 use Rattle.modes.specs.OpenState.{OpenedCbc, opened_next, settled_fill}
 use Rattle.modes.proofs.Opened.{take-ok, taken-settled}
 use Rattle.modes.proofs.opening.CbcOpener.take.Goals as goal
