@@ -85,8 +85,21 @@ def rename_crate():
                 f.write(new)
 
 
+def name_all():
+    """std's word for "of each element, by recursion" stands under its own name: `All` is another word of std."""
+    for path in files():
+        with open(path, encoding="utf-8") as f:
+            text = f.read()
+        if "AllByRecursion as All" in text:
+            text = text.replace("AllByRecursion as All", "\x00")
+            text = re.sub(r"(?<![\w'.-])All(?![\w'-])", "AllByRecursion", text).replace("\x00", "AllByRecursion")
+            with open(path, "w", encoding="utf-8") as f:
+                f.write(text)
+
+
 def main():
     rename_crate()
+    name_all()
     names = old_names()
     out, clash = {}, []
     for path in files():

@@ -1,16 +1,16 @@
 -- What a block is, what a block cipher means, and when two ciphers mean the same.
 use Rattle.std.specs.Prelude.{◌≡◌, ℕ, ◌<◌, cond, ◌⊎◌, List, length, Ok, Err, Result, ◌==◌}
-use Rattle.std.specs.List.{AllByRecursion as All}
+use Rattle.std.specs.List.{AllByRecursion}
 use Rattle.block.specs.declared.BlockFault.{BlockFault}
 use Rattle.block.specs.declared.BlockFault.TheVariants.{BlockLength}
 
 abbrev pub Bytes : List ℕ → Type 0
-Bytes a = All (λ x. x < 256) a
+Bytes a = AllByRecursion (λ x. x < 256) a
 
 -- n bytes
 pub record Block (n : ℕ) (b : List ℕ) : Type 0 where
   pub long : length b ≡ n
-  pub bytes : All (λ x. x < 256) b
+  pub bytes : AllByRecursion (λ x. x < 256) b
 
 -- the meaning of a block cipher: its block length n, and E and D on blocks of n bytes
 pub record Meaning : Type 0 where

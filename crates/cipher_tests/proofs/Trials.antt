@@ -1,7 +1,7 @@
 -- What a call that was not refused has made.
 use Rattle.std.proofs.Common.{◌≡◌, ℕ, ◌<◌, Bool, true, false, cond, not, ◌||◌, eqb, List, [], ◌∷◌, length, IfOk, Ok, Err, Result, unwrap_or, sym, refl, ◌∙◌, subst, arith, tests}
 use Rattle.std.proofs.lemmas.Bool.{eqb-true, or_parts}
-use Rattle.std.specs.List.{AllByRecursion as All}
+use Rattle.std.specs.List.{AllByRecursion}
 use Rattle.hex_digits.specs.Hex.{hex_bytes, hex_value}
 use Rattle.block.specs.Blocks.{Block, Meaning, Same, block_after, block_answer}
 use Rattle.block.specs.declared.BlockFault.{BlockFault}
@@ -28,7 +28,7 @@ makes-from n f b after p q = by-test n f b after (eqb (length b) n) (eqb-true (l
 digit-small : (x : ℕ) → unwrap_or (hex_value x) 0 < 16
 digit-small x = grind (arith, tests)
 
-bytes_small : (xs : List ℕ) → All (λ x. x < 256) (hex_bytes xs)
+bytes_small : (xs : List ℕ) → AllByRecursion (λ x. x < 256) (hex_bytes xs)
 bytes_small [] = tt
 bytes_small (x ∷ []) = tt
 bytes_small (x ∷ y ∷ zs) = (omega (arith, digit-small x, digit-small y), bytes_small zs)

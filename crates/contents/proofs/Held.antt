@@ -1,7 +1,7 @@
 -- Entries that are held: their bytes are those of the entries of their bodies, and the bodies are those of a sheet that passes.
 use Rattle.std.proofs.Common.{◌≡◌, ℕ, ◌+◌, ◌<◌, ◌≤◌, true, ltb, List, [], ◌∷◌, ◌++◌, map, length, get_or, take, Some, Decides, sym, refl, ◌∙◌, ap₂, append_assoc, append-nil, arith}
 use lib.ListN.{length-map}
-use Rattle.std.specs.List.{flat_map, AllByRecursion as All}
+use Rattle.std.specs.List.{flat_map, AllByRecursion}
 use Rattle.std.proofs.ByRecursion.{All-from_get_or, All-push, Decides-by_and}
 use Rattle.std.proofs.lemmas.Slice.Eq.{bytes_eq-Decides}
 use Rattle.std.proofs.lemmas.List.{length_push, length-take-le}
@@ -17,7 +17,7 @@ use Rattle.contents_laws.proofs.Sound.{Fit, Sound, sound_none, sound-push, next_
 use Rattle.contents.specs.Entries.{body_in, bodies_in, bytes_in, are_bytes, is_fit, is_held, are_held, may_stand, is_contents}
 use Rattle.contents.specs.declared.entry.Entry.{Entry}
 
-bytes_decides : (xs : List ℕ) → Decides (are_bytes xs) (All (λ x. x < 256) xs)
+bytes_decides : (xs : List ℕ) → Decides (are_bytes xs) (AllByRecursion (λ x. x < 256) xs)
 bytes_decides = Decides-by_and (λ x. ltb x 256) (λ x. x < 256) are_bytes (λ x. Decides-ltb x 256) refl (λ _ _. refl)
 
 pub fit-test : (n : ℕ) (b : BodyOrder) → Fit n b → is_fit n b ≡ true
@@ -38,7 +38,7 @@ fit-if n b t =
       named = r.1;
     }
 
-pub all-bytes : (xs : List ℕ) → ((i : ℕ) → get_or xs i 0 < 256) → All (λ x. x < 256) xs
+pub all-bytes : (xs : List ℕ) → ((i : ℕ) → get_or xs i 0 < 256) → AllByRecursion (λ x. x < 256) xs
 all-bytes xs h = All-from_get_or (λ x. x < 256) xs 0 (λ i _. h i)
 
 -- an entry that is read of 56 bytes is held
@@ -59,16 +59,16 @@ held-if n e t =
     let p = and_parts _ _ t in
     record { same = (bytes_eq-Decides (bytes_in e) (entry_of (body_in n e))).0 p.0; fit = fit-if n (body_in n e) p.1 }
 
-held-decides : (n : ℕ) (es : List Entry) → Decides (are_held n es) (All (λ e. is_held n e ≡ true) es)
+held-decides : (n : ℕ) (es : List Entry) → Decides (are_held n es) (AllByRecursion (λ e. is_held n e ≡ true) es)
 held-decides n = Decides-by_and (is_held n) (λ e. is_held n e ≡ true) (are_held n) (λ e. (λ t. t, λ t. t)) refl (λ _ _. refl)
 
 pub held-push : (n : ℕ) (es : List Entry) (e : Entry) → are_held n es ≡ true → is_held n e ≡ true → are_held n (es ++ e ∷ []) ≡ true
 held-push n es e h t = (held-decides n (es ++ e ∷ [])).1 (All-push (λ x. is_held n x ≡ true) es e ((held-decides n es).0 h) t)
 
-pub held_all : (n : ℕ) (es : List Entry) → are_held n es ≡ true → All (λ e. is_held n e ≡ true) es
+pub held_all : (n : ℕ) (es : List Entry) → are_held n es ≡ true → AllByRecursion (λ e. is_held n e ≡ true) es
 held_all n es h = (held-decides n es).0 h
 
-fit_all : (n : ℕ) (es : List Entry) → All (λ e. is_held n e ≡ true) es → All (Fit n) (map (body_in n) es)
+fit_all : (n : ℕ) (es : List Entry) → AllByRecursion (λ e. is_held n e ≡ true) es → AllByRecursion (Fit n) (map (body_in n) es)
 fit_all n [] h = tt
 fit_all n (e ∷ es) h = ((held-if n e h.0).fit, fit_all n es h.1)
 
@@ -80,7 +80,7 @@ stand-if-sound n earlier (b ∷ later) s =
     and_from _ _ ((next-decides n earlier b).1 (next_of n earlier b later s).1)
     (stand-if-sound n (earlier ++ b ∷ []) later (rw (append_assoc earlier (b ∷ []) later) s))
 
-sound-if-stand : (n : ℕ) (earlier later : List BodyOrder) → Sound n earlier → All (Fit n) later → length earlier + length later ≤ 32
+sound-if-stand : (n : ℕ) (earlier later : List BodyOrder) → Sound n earlier → AllByRecursion (Fit n) later → length earlier + length later ≤ 32
     → may_stand n earlier later ≡ true → Sound n (earlier ++ later)
 sound-if-stand n earlier [] s f few t = rw (append-nil earlier) s
 sound-if-stand n earlier (b ∷ later) s f few t =
@@ -94,7 +94,7 @@ pub record Good (c : CipherKind) (k : ℕ) (rows : List Entry) : Type 0 where
   pub some : 1 ≤ k
   pub few : k ≤ 32
   pub rooms : length rows ≡ 32
-  pub held : All (λ e. is_held (block_length c) e ≡ true) (take k rows)
+  pub held : AllByRecursion (λ e. is_held (block_length c) e ≡ true) (take k rows)
   pub many : length (bodies_in (block_length c) k rows) ≡ k
   pub sound : Sound (block_length c) (bodies_in (block_length c) k rows)
 
@@ -126,6 +126,6 @@ contents-if c k rows some few rooms held s =
     (and_from _ _ (eq-eqb (length rows) 32 rooms) (and_from _ _ held (stand-if-sound (block_length c) [] (bodies_in (block_length c) k rows) s))))
 
 -- the entries of contents, as they are written, are those of their bodies
-pub entries-same : (n : ℕ) (es : List Entry) → All (λ e. is_held n e ≡ true) es → flat_map bytes_in es ≡ flat_map entry_of (map (body_in n) es)
+pub entries-same : (n : ℕ) (es : List Entry) → AllByRecursion (λ e. is_held n e ≡ true) es → flat_map bytes_in es ≡ flat_map entry_of (map (body_in n) es)
 entries-same n [] h = refl
 entries-same n (e ∷ es) h = ap₂ (λ (xs ys : List ℕ). xs ++ ys) (held-if n e h.0).same (entries-same n es h.1)

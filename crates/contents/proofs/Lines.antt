@@ -1,7 +1,7 @@
 -- The body lines of a sheet as entries.
 use Rattle.std.proofs.Common.{◌≡◌, ℕ, ◌+◌, ◌-◌, ◌<◌, ◌≤◌, true, false, ltb, List, [], ◌∷◌, ◌++◌, map, length, take, set, replicate, Some, None, Ok, Err, Result, sym, refl, ap, ◌∙◌, subst, ap₂, ⊎_elim, append_assoc, arith}
 use lib.ListN.{length-map}
-use Rattle.std.specs.List.{flat_map, AllByRecursion as All}
+use Rattle.std.specs.List.{flat_map, AllByRecursion}
 use Rattle.std.proofs.lemmas.Slice.Eq.{bytes_eq-Decides}
 use Rattle.std.proofs.lemmas.List.{take_at}
 use Rattle.std.proofs.lemmas.Bool.{and_from, cases_Bool}
@@ -128,8 +128,8 @@ none_named (LineKind.Body b) h = absurd (h b refl)
 
 -- One body line more: `rest` are the bodies of the lines that were left before it, and `later` those that are left after it.
 module _ (n count : ℕ) (rows : List Entry) (e : Entry) (b : Body) (rest later : List Body) (first : rest ≡ b ∷ later) where
-  pub line-fits : All (FitLine n) rest → FitLine n b × All (FitLine n) later
-  line-fits h = let k : All (FitLine n) (b ∷ later) = rw first at h in (k.0, k.1)
+  pub line-fits : AllByRecursion (FitLine n) rest → FitLine n b × AllByRecursion (FitLine n) later
+  line-fits h = let k : AllByRecursion (FitLine n) (b ∷ later) = rw first at h in (k.0, k.1)
 
   pub line-counted : (whole : ℕ) → count + length rest ≡ whole → count + 1 + length later ≡ whole
   line-counted whole h = let k = ap length first in omega arith

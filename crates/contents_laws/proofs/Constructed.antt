@@ -1,7 +1,7 @@
 -- A sheet for sound bodies: one cipher line, and a line for each body. It passes, and orders them.
 use Rattle.std.proofs.Common.{◌≡◌, ℕ, ◌+◌, ◌*◌, ◌<◌, ◌≤◌, true, false, leb, List, [], ◌∷◌, ◌++◌, map, length, codes, decimal, sym, refl, ap, ◌∙◌, subst, ap₂, inl, inr, ⊎_elim, arith, length-append}
 use lib.ListN.{length-map}
-use Rattle.std.specs.List.{flat_map, AllByRecursion as All}
+use Rattle.std.specs.List.{flat_map, AllByRecursion}
 use Rattle.std.proofs.ByRecursion.{All-append, All-map, All-weaker}
 use Rattle.std.proofs.lemmas.Bool.{cases_lt, and_parts, leb-true, lt-ltb, le-ltb}
 use Rattle.hex_digits.specs.Hex.{hex_value, is_hex_digit, all_hex_digits, hex_bytes}
@@ -49,7 +49,7 @@ ordered-line : (n : ℕ) (b : BodyOrder) → Fit n b → ordered (line_of b) ≡
 ordered-line n b f =
     ap (λ (s : List ℕ). record { mode = b.mode; start = s; len = b.len; name = b.name }) (bytes-of-text b.start f.bytes)
 
-ordered-lines : (n : ℕ) (bs : List BodyOrder) → All (Fit n) bs → bs ≡ map ordered (map line_of bs)
+ordered-lines : (n : ℕ) (bs : List BodyOrder) → AllByRecursion (Fit n) bs → bs ≡ map ordered (map line_of bs)
 ordered-lines n [] h = refl
 ordered-lines n (b ∷ bs) h = ap₂ ◌∷◌ (sym (ordered-line n b h.0)) (ordered-lines n bs h.1)
 
@@ -80,7 +80,7 @@ is-start c b f =
 line-has-form : (c : CipherKind) (b : BodyOrder) → Fit (block_length c) b → HasForm (text_of b) (body (line_of b))
 line-has-form c b f = (decimal b.len, refl, is-start c b f, decimal-read b.len f.limit, f.named)
 
-lines-have-forms : (c : CipherKind) (bs : List BodyOrder) → All (Fit (block_length c)) bs → All (λ p. HasForm p.0 p.1) (map body_line bs)
+lines-have-forms : (c : CipherKind) (bs : List BodyOrder) → AllByRecursion (Fit (block_length c)) bs → AllByRecursion (λ p. HasForm p.0 p.1) (map body_line bs)
 lines-have-forms c [] h = tt
 lines-have-forms c (b ∷ bs) h = (line-has-form c b h.0, lines-have-forms c bs h.1)
 
@@ -113,10 +113,10 @@ hex-allowed x e =
     let d = digit-of-value x v.0 v.1 in
     inr (subst (λ (y : ℕ). (32 ≤ y) × (y ≤ 126)) d.1 (digit-range v.0 d.0))
 
-spaced-allowed : (word rest : List ℕ) → All Allowed word → All Allowed rest → All Allowed (spaced word rest)
+spaced-allowed : (word rest : List ℕ) → AllByRecursion Allowed word → AllByRecursion Allowed rest → AllByRecursion Allowed (spaced word rest)
 spaced-allowed word rest w r = All-append Allowed word (32 ∷ rest) w (inr (omega arith, omega arith), r)
 
-text-allowed : (c : CipherKind) (b : BodyOrder) → Fit (block_length c) b → All Allowed (text_of b)
+text-allowed : (c : CipherKind) (b : BodyOrder) → Fit (block_length c) b → AllByRecursion Allowed (text_of b)
 text-allowed c b f =
     let m = All-weaker (λ x. is_graphic x ≡ true) Allowed graphic-allowed (mode_word b.mode) (mode-graphic b.mode) in
     let s = All-weaker (λ x. is_hex_digit x ≡ true) Allowed hex-allowed (hex_text b.start) (start-digits (hex_text b.start) (is-start c b f)) in
@@ -126,16 +126,16 @@ text-allowed c b f =
     spaced-allowed (codes "b") _ (inr (omega arith, omega arith), tt)
     (spaced-allowed (mode_word b.mode) _ m (spaced-allowed (hex_text b.start) _ s (spaced-allowed (decimal b.len) b.name d n)))
 
-ended-allowed : (text : List ℕ) → All Allowed text → All Allowed (text ++ 10 ∷ [])
+ended-allowed : (text : List ℕ) → AllByRecursion Allowed text → AllByRecursion Allowed (text ++ 10 ∷ [])
 ended-allowed text h = All-append Allowed text (10 ∷ []) h (inl refl, tt)
 
-bodies-allowed : (c : CipherKind) (bs : List BodyOrder) → All (Fit (block_length c)) bs → All Allowed (flat_map ended_text (map body_line bs))
+bodies-allowed : (c : CipherKind) (bs : List BodyOrder) → AllByRecursion (Fit (block_length c)) bs → AllByRecursion Allowed (flat_map ended_text (map body_line bs))
 bodies-allowed c [] h = tt
 bodies-allowed c (b ∷ bs) h =
     All-append Allowed (text_of b ++ 10 ∷ []) (flat_map ended_text (map body_line bs)) (ended-allowed (text_of b) (text-allowed c b h.0))
     (bodies-allowed c bs h.1)
 
-cipher-allowed : (c : CipherKind) → All Allowed (ended_text (cipher_line c))
+cipher-allowed : (c : CipherKind) → AllByRecursion Allowed (ended_text (cipher_line c))
 cipher-allowed c =
     ended-allowed (spaced (codes "c") (cipher_word c))
     (spaced-allowed (codes "c") (cipher_word c) (inr (omega arith, omega arith), tt)
@@ -169,7 +169,7 @@ line-short c b f =
       name-short b.name f.named,
     )
 
-bodies-short : (c : CipherKind) (bs : List BodyOrder) → All (Fit (block_length c)) bs → length (flat_map ended_text (map body_line bs)) ≤ 80 * length bs
+bodies-short : (c : CipherKind) (bs : List BodyOrder) → AllByRecursion (Fit (block_length c)) bs → length (flat_map ended_text (map body_line bs)) ≤ 80 * length bs
 bodies-short c [] h = omega arith
 bodies-short c (b ∷ bs) h =
     omega (arith, length-append (ended_text (body_line b)) (flat_map ended_text (map body_line bs)), line-short c b h.0, bodies-short c bs h.1)

@@ -1,6 +1,6 @@
 -- The digits that a sheet has for bytes and for a length.
 use Rattle.std.proofs.Common.{◌≡◌, ℕ, ◌+◌, ◌-◌, ◌*◌, ◌/◌, ◌%◌, ◌^◌, ◌<◌, ◌≤◌, true, false, cond, ◌&&◌, ltb, leb, ◌⊎◌, List, [], ◌∷◌, ◌++◌, length, get_or, is_some, Some, None, decimal, Option, unwrap_or, refl, ap, ap₂, inl, inr, ⊎_elim, arith}
-use Rattle.std.specs.List.{AllByRecursion as All}
+use Rattle.std.specs.List.{AllByRecursion}
 use Rattle.std.proofs.lemmas.Fmt.{decimal_digit, decimal_by_steps, length-decimal-le, decimal_nonempty, first_decimal}
 use Rattle.std.proofs.lemmas.Bool.{cases_Bool, cases_lt, and_parts, leb-true, le-leb, lt-leb, lt-ltb, le-ltb, ne_eqb}
 use Rattle.hex_digits.specs.Hex.{hex_value, is_hex_digit, all_hex_digits, hex_bytes}
@@ -60,7 +60,7 @@ some-value None e = clash (cc)
 some-value (Some d) e = (d, refl)
 
 abbrev pub Bytes : List ℕ → Type 0
-Bytes xs = All (λ x. x < 256) xs
+Bytes xs = AllByRecursion (λ x. x < 256) xs
 
 pub bytes-of-text : (xs : List ℕ) → Bytes xs → hex_bytes (hex_text xs) ≡ xs
 bytes-of-text [] h = refl

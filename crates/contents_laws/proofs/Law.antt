@@ -1,6 +1,6 @@
 -- What contents say keeps the law of reading.
 use Rattle.std.proofs.Common.{◌≡◌, ℕ, zero, suc, ◌+◌, ◌*◌, ◌<◌, ◌≤◌, true, false, eqb, ◌⊎◌, List, [], ◌∷◌, ◌++◌, length, take, drop, Some, None, Ok, Err, Option, Result, sym, refl, ap, ◌∙◌, subst, ap₂, inl, inr, ⊎_elim, arith, length-append, take-add}
-use Rattle.std.specs.List.{flat_map, AllByRecursion as All}
+use Rattle.std.specs.List.{flat_map, AllByRecursion}
 use Rattle.std.proofs.lemmas.List.{length-take-le, take-append-drop, take-take, take_at, take_all, drop_at}
 use Rattle.std.proofs.lemmas.Bool.{cases_Bool, cases_order, and_parts, eqb-true, eqb-false, eq-eqb, leb-true, le-leb}
 use Rattle.sheet_format.specs.Orders.{BodyOrder, map_ok}
@@ -82,13 +82,13 @@ bytes-are Sixteen = inr refl
 
 -- The entries of bodies.
 
-pub length-entries : (c : CipherKind) (bs : List BodyOrder) → All (Fit (block_length c)) bs → length (flat_map entry_of bs) ≡ 56 * length bs
+pub length-entries : (c : CipherKind) (bs : List BodyOrder) → AllByRecursion (Fit (block_length c)) bs → length (flat_map entry_of bs) ≡ 56 * length bs
 length-entries c [] h = refl
 length-entries c (b ∷ bs) h =
     omega (arith, length-append (entry_of b) (flat_map entry_of bs), length-entry c b h.0, length-entries c bs h.1)
 
 -- the entries of the first j bodies
-front-entries : (c : CipherKind) (j : ℕ) (bs : List BodyOrder) → All (Fit (block_length c)) bs → take (56 * j) (flat_map entry_of bs) ≡ flat_map entry_of (take j bs)
+front-entries : (c : CipherKind) (j : ℕ) (bs : List BodyOrder) → AllByRecursion (Fit (block_length c)) bs → take (56 * j) (flat_map entry_of bs) ≡ flat_map entry_of (take j bs)
 front-entries c zero bs h = refl
 front-entries c (suc j) [] h = take_all (56 * suc j) [] (omega arith)
 front-entries c (suc j) (b ∷ bs) h =

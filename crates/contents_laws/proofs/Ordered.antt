@@ -1,7 +1,7 @@
 -- What a sheet that passes orders is sound.
 use Rattle.std.proofs.Common.{◌≡◌, ℕ, ◌*◌, ◌≤◌, true, false, List, [], ◌∷◌, map, length, sym, refl, ap, ◌∙◌, subst, arith}
 use lib.ListN.{length-map}
-use Rattle.std.specs.List.{flat_map, AllByRecursion as All}
+use Rattle.std.specs.List.{flat_map, AllByRecursion}
 use Rattle.std.proofs.ByRecursion.{All-append, All-map, All-weaker}
 use Rattle.hex_digits.specs.Hex.{all_hex_digits, hex_bytes}
 use Rattle.sheet_format.specs.Lines.{Body, Form, blank, comment, cipher, body, is_start, is_name}
@@ -28,11 +28,11 @@ two_digits Cbc Magma = refl
 
 -- no two are alike, seen through f
 module _ {X Y : Type 0} (f : X → Y) (Good : X → Type 0) (P : X → X → Type 0) (Q : Y → Y → Type 0) (back : (x y : X) → Good x → Good y → Q (f x) (f y) → P x y) where
-  others : (x : X) → Good x → (ys : List X) → All Good ys → All (λ y. P x y → ⊥) ys → All (λ y. Q (f x) (f y) → ⊥) ys
+  others : (x : X) → Good x → (ys : List X) → AllByRecursion Good ys → AllByRecursion (λ y. P x y → ⊥) ys → AllByRecursion (λ y. Q (f x) (f y) → ⊥) ys
   others x g [] gs ps = tt
   others x g (y ∷ ys) gs ps = (λ q. ps.0 (back x y g gs.0 q), others x g ys gs.1 ps.1)
 
-  pub no_two-map : (xs : List X) → All Good xs → NoTwo P xs → NoTwo Q (map f xs)
+  pub no_two-map : (xs : List X) → AllByRecursion Good xs → NoTwo P xs → NoTwo Q (map f xs)
   no_two-map [] g h = tt
   no_two-map (x ∷ xs) g h = (All-map (λ y. Q (f x) y → ⊥) f xs (others x g.0 xs g.1 h.0), no_two-map xs g.1 h.1)
 
@@ -50,24 +50,24 @@ formed-if text comment h = tt
 formed-if text (cipher c) h = tt
 formed-if text (body b) h = (h.2, h.4)
 
-lines-formed : (lines : List (List ℕ × Form)) → All (λ p. HasForm p.0 p.1) lines → All Formed (map (λ p. p.1) lines)
+lines-formed : (lines : List (List ℕ × Form)) → AllByRecursion (λ p. HasForm p.0 p.1) lines → AllByRecursion Formed (map (λ p. p.1) lines)
 lines-formed [] h = tt
 lines-formed (l ∷ lines) h = (formed-if l.0 l.1 h.0, lines-formed lines h.1)
 
-counting-formed : (f : Form) → Formed f → All Formed (counting f)
+counting-formed : (f : Form) → Formed f → AllByRecursion Formed (counting f)
 counting-formed blank h = tt
 counting-formed comment h = tt
 counting-formed (cipher c) h = (h, tt)
 counting-formed (body b) h = (h, tt)
 
-counted-formed : (forms : List Form) → All Formed forms → All Formed (flat_map counting forms)
+counted-formed : (forms : List Form) → AllByRecursion Formed forms → AllByRecursion Formed (flat_map counting forms)
 counted-formed [] h = tt
 counted-formed (f ∷ forms) h = All-append Formed (counting f) (flat_map counting forms) (counting-formed f h.0) (counted-formed forms h.1)
 
 -- what body lines keep
 
-kept-all : (n : ℕ) (bs : List Body) → All Formed (map body bs) → All (λ b. (b.len.value ≤ 1048576) × (b.len.padded ≡ false)) bs
-    → All (λ b. length b.start ≡ start_digits b.mode n) bs → All (FitLine n) bs
+kept-all : (n : ℕ) (bs : List Body) → AllByRecursion Formed (map body bs) → AllByRecursion (λ b. (b.len.value ≤ 1048576) × (b.len.padded ≡ false)) bs
+    → AllByRecursion (λ b. length b.start ≡ start_digits b.mode n) bs → AllByRecursion (FitLine n) bs
 kept-all n [] f l d = tt
 kept-all n (b ∷ bs) f l d = (record { start = f.0.0; named = f.0.1; limit = l.0.0; digits = d.0 }, kept-all n bs f.1 l.1 d.1)
 
@@ -92,12 +92,12 @@ fit-ordered c b k =
       named = k.named;
     }
 
-pub kept-if-passes : (sheet : List ℕ) (o : Order) (p : Passes sheet o) → All (FitLine (block_length o.cipher)) p.named
+pub kept-if-passes : (sheet : List ℕ) (o : Order) (p : Passes sheet o) → AllByRecursion (FitLine (block_length o.cipher)) p.named
 kept-if-passes sheet o p =
     let c = o.cipher in
-    let forms : All Formed p.forms = subst (λ (fs : List Form). All Formed fs) p.lines.3 (lines-formed p.lines.0 p.lines.2) in
-    let counted : All Formed (cipher c ∷ map body p.named) =
-    subst (λ (fs : List Form). All Formed fs) p.counted (counted-formed p.forms forms) in
+    let forms : AllByRecursion Formed p.forms = subst (λ (fs : List Form). AllByRecursion Formed fs) p.lines.3 (lines-formed p.lines.0 p.lines.2) in
+    let counted : AllByRecursion Formed (cipher c ∷ map body p.named) =
+    subst (λ (fs : List Form). AllByRecursion Formed fs) p.counted (counted-formed p.forms forms) in
     kept-all (block_length c) p.named counted.1 p.lengths p.digits
 
 pub sound-if-passes : (sheet : List ℕ) (o : Order) → Passes sheet o → Sound (block_length o.cipher) o.bodies × (1 ≤ length o.bodies)

@@ -1,6 +1,6 @@
 -- Bodies that a sheet can order, by themselves and together.
 use Rattle.std.proofs.Common.{◌≡◌, ℕ, ◌+◌, ◌<◌, ◌≤◌, Bool, true, false, not, ◌&&◌, leb, List, [], ◌∷◌, ◌++◌, length, Decides, refl, arith, length-append}
-use Rattle.std.specs.List.{AllByRecursion as All}
+use Rattle.std.specs.List.{AllByRecursion}
 use Rattle.std.specs.Str.{bytes_eq}
 use Rattle.std.proofs.ByRecursion.{All-push}
 use Rattle.std.proofs.lemmas.Slice.Eq.{bytes_eq-Decides}
@@ -39,15 +39,15 @@ name-short (x ∷ xs) e = leb-true (length (x ∷ xs)) 32 (and_parts (leb (lengt
 -- bodies together
 pub record Sound (n : ℕ) (bs : List BodyOrder) : Type 0 where
   pub few : length bs ≤ 32
-  pub each : All (Fit n) bs
+  pub each : AllByRecursion (Fit n) bs
   pub names : NoTwo SameName bs
   pub starts : NoTwo SameStart bs
   pub blocks : total_blocks n bs ≤ 1000000
 
 -- what the tests of a next body say
 pub record Next (n : ℕ) (bs : List BodyOrder) (b : BodyOrder) : Type 0 where
-  pub names : All (λ e. SameName e b → ⊥) bs
-  pub starts : All (λ e. SameStart e b → ⊥) bs
+  pub names : AllByRecursion (λ e. SameName e b → ⊥) bs
+  pub starts : AllByRecursion (λ e. SameStart e b → ⊥) bs
   pub blocks : total_blocks n (bs ++ b ∷ []) ≤ 1000000
 
 pub sound_none : (n : ℕ) → Sound n []
@@ -64,7 +64,7 @@ sound-push n bs b room s f next = record {
 
 -- a front of sound bodies
 
-all-front : {X : Type 0} (P : X → Type 0) (xs ys : List X) → All P (xs ++ ys) → All P xs
+all-front : {X : Type 0} (P : X → Type 0) (xs ys : List X) → AllByRecursion P (xs ++ ys) → AllByRecursion P xs
 all-front P [] ys h = tt
 all-front P (x ∷ xs) ys h = (h.0, all-front P xs ys h.1)
 
@@ -115,12 +115,12 @@ shares_start-decides b e =
     (Decides-and (is_ctr b.mode) (is_ctr e.mode && bytes_eq e.start b.start) (is-ctr b.mode)
     (Decides-and (is_ctr e.mode) (bytes_eq e.start b.start) (is-ctr e.mode) (bytes_eq-Decides e.start b.start)))
 
-name_new : (b : BodyOrder) (bs : List BodyOrder) → Decides (not (name_in b.name bs)) (All (λ e. SameName e b → ⊥) bs)
+name_new : (b : BodyOrder) (bs : List BodyOrder) → Decides (not (name_in b.name bs)) (AllByRecursion (λ e. SameName e b → ⊥) bs)
 name_new b =
     none-by-or (λ e. bytes_eq e.name b.name) (λ e. SameName e b) (name_in b.name)
     (λ e. bytes_eq-Decides e.name b.name) refl (λ _ _. refl)
 
-start-new : (b : BodyOrder) (bs : List BodyOrder) → Decides (not (is_ctr b.mode && ctr_start_in b.start bs)) (All (λ e. SameStart e b → ⊥) bs)
+start-new : (b : BodyOrder) (bs : List BodyOrder) → Decides (not (is_ctr b.mode && ctr_start_in b.start bs)) (AllByRecursion (λ e. SameStart e b → ⊥) bs)
 start-new b =
     none-by-or (shares_start b) (λ e. SameStart e b) (λ es. is_ctr b.mode && ctr_start_in b.start es)
     (shares_start-decides b) (and_right (is_ctr b.mode) false refl)
@@ -129,7 +129,7 @@ start-new b =
 pub next-decides : (n : ℕ) (bs : List BodyOrder) (b : BodyOrder) → Decides (may_follow n bs b) (Next n bs b)
 next-decides n bs b =
     Decides-like (may_follow n bs b)
-    (λ (h : All (λ e. SameName e b → ⊥) bs × (All (λ e. SameStart e b → ⊥) bs × (total_blocks n (bs ++ b ∷ []) ≤ 1000000))).
+    (λ (h : AllByRecursion (λ e. SameName e b → ⊥) bs × (AllByRecursion (λ e. SameStart e b → ⊥) bs × (total_blocks n (bs ++ b ∷ []) ≤ 1000000))).
     record { names = h.0; starts = h.1.0; blocks = h.1.1 })
     (λ (h : Next n bs b). (h.names, (h.starts, h.blocks)))
     (Decides-and _ _ (name_new b bs) (Decides-and _ _ (start-new b bs) (decides-leb (total_blocks n (bs ++ b ∷ [])) 1000000)))

@@ -1,6 +1,6 @@
 -- Which contents belong to a sheet that passes, and at which place other bytes are refused.
 use Rattle.std.specs.Prelude.{◌≡◌, ℕ, ◌+◌, ◌*◌, ◌<◌, ◌≤◌, ◌⊎◌, List, ◌∷◌, length, take, Ok, Err, Result}
-use Rattle.std.specs.List.{AllByRecursion as All}
+use Rattle.std.specs.List.{AllByRecursion}
 use Rattle.contents_format.specs.Layout.{contents_of}
 use Rattle.contents_format.specs.Reading.{SetOrder, contents_read}
 use Rattle.contents_format.specs.declared.ContentsFault.{ContentsFault}
@@ -55,4 +55,4 @@ pub record ReadLaw (bytes : List ℕ) (r : Result SetOrder ContentsFault) : Type
 
 -- what contents say keeps the law
 abbrev pub ReadingKeepsLaw : Type 0
-ReadingKeepsLaw = (bytes : List ℕ) → All (λ x. x < 256) bytes → ReadLaw bytes (contents_read bytes)
+ReadingKeepsLaw = (bytes : List ℕ) → AllByRecursion (λ x. x < 256) bytes → ReadLaw bytes (contents_read bytes)

@@ -1,6 +1,6 @@
 -- The body lines of a sheet that passes.
 use Rattle.std.specs.Prelude.{◌≡◌, ℕ, ◌≤◌, true, List, length}
-use Rattle.std.specs.List.{AllByRecursion as All}
+use Rattle.std.specs.List.{AllByRecursion}
 use Rattle.sheet_format.specs.Lines.{Body, is_name, is_start}
 use Rattle.sheet_format.specs.Sizes.{start_digits}
 
@@ -13,4 +13,4 @@ pub record FitLine (n : ℕ) (b : Body) : Type 0 where
 
 pub record FitLines (n : ℕ) (bs : List Body) : Type 0 where
   pub few : length bs ≤ 32
-  pub each : All (FitLine n) bs
+  pub each : AllByRecursion (FitLine n) bs

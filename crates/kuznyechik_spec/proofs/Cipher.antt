@@ -1,6 +1,6 @@
 -- S and its inverse, and E and D with any list of round keys that are blocks: each undoes the other.
 use Rattle.std.proofs.Common.{◌≡◌, ℕ, suc, ◌<◌, eqb, ltb, List, [], ◌∷◌, map, length, refl, ap, ◌∙◌, ap₂, eqb→eq, ltb→lt}
-use Rattle.std.specs.List.{AllByRecursion as All}
+use Rattle.std.specs.List.{AllByRecursion}
 use Rattle.block.specs.Blocks.{Block, Bytes}
 use Rattle.kuznyechik_spec.specs.Kuznyechik.{substitution, substitutions, substitution_inverse, place_of, transform_s, inverse_s, add_key, transform_l, inverse_l, lsx, encipher, decipher}
 use Rattle.kuznyechik_spec.proofs.Computed.{below}
@@ -74,13 +74,13 @@ lsx-redone k a hk ha =
     ap (λ z. transform_l (transform_s z)) (add_key-twice k (inverse_s (inverse_l a)) hk (inverse_s-block (inverse_l a) b))
     ∙ ap transform_l (transform_s-inverse_s (inverse_l a) b) ∙ transform_l-inverse_l a ha
 
-pub encipher-block : (ks : List (List ℕ)) (a : List ℕ) → All (Block 16) ks → Block 16 a → Block 16 (encipher ks a)
+pub encipher-block : (ks : List (List ℕ)) (a : List ℕ) → AllByRecursion (Block 16) ks → Block 16 a → Block 16 (encipher ks a)
 unfolding encipher
 encipher-block [] a hk ha = ha
 encipher-block (k ∷ []) a hk ha = add_key-block hk.0 ha
 encipher-block (k ∷ k2 ∷ ks) a hk ha = encipher-block (k2 ∷ ks) (lsx k a) hk.1 (lsx-block k a hk.0 ha)
 
-pub decipher-block : (ks : List (List ℕ)) (a : List ℕ) → All (Block 16) ks → Block 16 a → Block 16 (decipher ks a)
+pub decipher-block : (ks : List (List ℕ)) (a : List ℕ) → AllByRecursion (Block 16) ks → Block 16 a → Block 16 (decipher ks a)
 unfolding decipher
 decipher-block [] a hk ha = ha
 decipher-block (k ∷ []) a hk ha = add_key-block hk.0 ha
@@ -88,7 +88,7 @@ decipher-block (k ∷ k2 ∷ ks) a hk ha =
     let d : Block 16 (decipher (k2 ∷ ks) a) = decipher-block (k2 ∷ ks) a hk.1 ha in
     add_key-block hk.0 (inverse_s-block (inverse_l (decipher (k2 ∷ ks) a)) (inverse_l-block (decipher (k2 ∷ ks) a) d))
 
-pub decipher-encipher : (ks : List (List ℕ)) (a : List ℕ) → All (Block 16) ks → Block 16 a → decipher ks (encipher ks a) ≡ a
+pub decipher-encipher : (ks : List (List ℕ)) (a : List ℕ) → AllByRecursion (Block 16) ks → Block 16 a → decipher ks (encipher ks a) ≡ a
 unfolding encipher decipher
 decipher-encipher [] a hk ha = refl
 decipher-encipher (k ∷ []) a hk ha = add_key-twice k a hk.0 ha
@@ -96,7 +96,7 @@ decipher-encipher (k ∷ k2 ∷ ks) a hk ha =
     ap (λ z. add_key k (inverse_s (inverse_l z))) (decipher-encipher (k2 ∷ ks) (lsx k a) hk.1 (lsx-block k a hk.0 ha))
     ∙ lsx-undone k a hk.0 ha
 
-pub encipher-decipher : (ks : List (List ℕ)) (a : List ℕ) → All (Block 16) ks → Block 16 a → encipher ks (decipher ks a) ≡ a
+pub encipher-decipher : (ks : List (List ℕ)) (a : List ℕ) → AllByRecursion (Block 16) ks → Block 16 a → encipher ks (decipher ks a) ≡ a
 unfolding encipher decipher
 encipher-decipher [] a hk ha = refl
 encipher-decipher (k ∷ []) a hk ha = add_key-twice k a hk.0 ha

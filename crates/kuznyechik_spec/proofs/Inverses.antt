@@ -1,6 +1,6 @@
 -- D with the inverse of L of the round keys: each round adds its key, and then takes the inverses of S and of L.
 use Rattle.std.proofs.Common.{◌≡◌, ℕ, zero, suc, ◌<◌, true, not, ◌&&◌, T, eqb, List, [], ◌∷◌, map, length, get_or, drop, sym, refl, ap, ◌∙◌, subst, ap₂, arith}
-use Rattle.std.specs.List.{AllByRecursion as All}
+use Rattle.std.specs.List.{AllByRecursion}
 use Rattle.std.proofs.ByRecursion.{All-drop}
 use Rattle.std.proofs.lemmas.Bool.{and_parts, eq-eqb, eqb-true}
 use Rattle.block.specs.Blocks.{Block}
@@ -24,7 +24,7 @@ inverse-at (k ∷ ks) (m ∷ ms) e (suc i) h =
     inverse-at ks ms (and_parts (eqb m (inverse_number (block_of k))) (are_inverses ks ms) e).1 i (omega arith)
 
 -- the rows that are made of blocks
-pub inverses-of : (rows : List (List ℕ)) → All (Block 16) rows → are_inverses (map (number 0) rows) (map inverse_number rows) ≡ true
+pub inverses-of : (rows : List (List ℕ)) → AllByRecursion (Block 16) rows → are_inverses (map (number 0) rows) (map inverse_number rows) ≡ true
 unfolding are_inverses
 inverses-of [] h = refl
 inverses-of (r ∷ rs) h =

@@ -1,6 +1,6 @@
 -- The round keys of a key of thirty-two bytes are blocks.
 use Rattle.std.proofs.Common.{◌≡◌, ℕ, zero, suc, ◌+◌, ◌-◌, ◌/◌, ◌%◌, ◌<◌, min, Bool, true, false, not, ◌&&◌, T, eqb, ltb, List, [], ◌∷◌, length, take, drop, sym, refl, ap, ◌∙◌, subst, ap₂, arith, eqb→eq, ltb→lt, lt→ltb, length-drop, length-take}
-use Rattle.std.specs.List.{AllByRecursion as All}
+use Rattle.std.specs.List.{AllByRecursion}
 use lib.Lanes.{all_below}
 use Rattle.block.specs.Blocks.{Block, Bytes}
 use Rattle.kuznyechik_spec.specs.Kuznyechik.{is_block, are_blocks, bytes_of, block_of, iteration_constant, Halves, halves, feistel_round, feistel_rounds, schedule, round_keys}
@@ -39,7 +39,7 @@ unfolding feistel_rounds
 feistel_rounds-blocks zero i t h = h
 feistel_rounds-blocks (suc n) i t h = feistel_rounds-blocks n (suc i) (feistel_round (iteration_constant i) t) (feistel_round-blocks (iteration_constant i) t (iteration_constant-block i) h)
 
-schedule-blocks : (m i : ℕ) (t : Halves) → Blocks t → All (Block 16) (schedule m i t)
+schedule-blocks : (m i : ℕ) (t : Halves) → Blocks t → AllByRecursion (Block 16) (schedule m i t)
 unfolding schedule
 schedule-blocks zero i t h = tt
 schedule-blocks (suc m) i t h = (h.first, (h.second, schedule-blocks m (i + 8) (feistel_rounds 8 i t) (feistel_rounds-blocks 8 i t h)))
@@ -49,7 +49,7 @@ bytes_drop zero xs h = h
 bytes_drop (suc n) [] h = tt
 bytes_drop (suc n) (x ∷ xs) h = bytes_drop n xs h.1
 
-pub round_keys-blocks : (k : List ℕ) → Block 32 k → All (Block 16) (round_keys k)
+pub round_keys-blocks : (k : List ℕ) → Block 32 k → AllByRecursion (Block 16) (round_keys k)
 unfolding round_keys
 round_keys-blocks k h =
     schedule-blocks 5 1 (halves (take 16 k) (drop 16 k))
@@ -84,7 +84,7 @@ bytes_below : (xs : List ℕ) → Bytes xs → all_below 256 xs ≡ true
 bytes_below [] h = refl
 bytes_below (x ∷ xs) h = ap₂ ◌&&◌ (of_test (ltb x 256) (lt→ltb x 256 h.0)) (bytes_below xs h.1)
 
-pub blocks_from : (ks : List (List ℕ)) → are_blocks ks ≡ true → All (Block 16) ks
+pub blocks_from : (ks : List (List ℕ)) → are_blocks ks ≡ true → AllByRecursion (Block 16) ks
 unfolding are_blocks is_block
 blocks_from [] e = tt
 blocks_from (k ∷ ks) e =
@@ -96,7 +96,7 @@ blocks_from (k ∷ ks) e =
       blocks_from ks (and_right (is_block k) (are_blocks ks) e),
     )
 
-pub blocks_to : (ks : List (List ℕ)) → All (Block 16) ks → are_blocks ks ≡ true
+pub blocks_to : (ks : List (List ℕ)) → AllByRecursion (Block 16) ks → are_blocks ks ≡ true
 unfolding are_blocks is_block
 blocks_to [] h = refl
 blocks_to (k ∷ ks) h =

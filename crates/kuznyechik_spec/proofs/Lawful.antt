@@ -1,12 +1,12 @@
 -- With round keys that are blocks the cipher is lawful, and the round keys of every key are blocks.
 use Rattle.std.proofs.Common.{◌≡◌, ℕ, List, refl, subst, inr}
-use Rattle.std.specs.List.{AllByRecursion as All}
+use Rattle.std.specs.List.{AllByRecursion}
 use Rattle.block.specs.Blocks.{Block, Lawful, Meaning, Same}
 use Rattle.kuznyechik_spec.specs.Kuznyechik.{kuznyechik, round_keys, with_round_keys}
 use Rattle.kuznyechik_spec.proofs.Cipher.{encipher-block, decipher-block, decipher-encipher, encipher-decipher}
 use Rattle.kuznyechik_spec.proofs.KeyBlocks.{round_keys-blocks}
 
-pub lawful-blocks : (ks : List (List ℕ)) → All (Block 16) ks → Lawful (with_round_keys ks)
+pub lawful-blocks : (ks : List (List ℕ)) → AllByRecursion (Block 16) ks → Lawful (with_round_keys ks)
 lawful-blocks ks h = record {
   sized = inr refl;
   forward-block = λ b. encipher-block ks b h;

@@ -1,6 +1,6 @@
 -- A block as a number, and the number's bytes as a block: a sum of numbers is the sum of the blocks.
 use Rattle.std.proofs.Common.{◌≡◌, ℕ, zero, suc, ◌+◌, ◌*◌, ◌/◌, ◌%◌, ◌^◌, ◌<◌, ◌≤◌, List, [], ◌∷◌, ◌++◌, map, length, get_or, take, drop, set, sym, refl, ap, ◌∙◌, ap₂, append_assoc, mul_comm, pow-suc, add-one, arith, drop-cons}
-use Rattle.std.specs.List.{AllByRecursion as All}
+use Rattle.std.specs.List.{AllByRecursion}
 use native.Mathlib.Nat.{div-div-eq-div-mul}
 use lib.Bits.{bit_xor, xor_comm, xor_mod, xor_shr}
 use lib.Lanes.{zip2}
@@ -112,11 +112,11 @@ get_or-blocks [] i h = absurd (omega arith)
 get_or-blocks (k ∷ ks) zero h = refl
 get_or-blocks (k ∷ ks) (suc i) h = get_or-blocks ks i (omega arith)
 
-pub are-blocks : (ks : List ℕ) → All (Block 16) (map block_of ks)
+pub are-blocks : (ks : List ℕ) → AllByRecursion (Block 16) (map block_of ks)
 are-blocks [] = tt
 are-blocks (k ∷ ks) = (block_of-block k, are-blocks ks)
 
-pub blocks-numbers : (rows : List (List ℕ)) → All (Block 16) rows → map block_of (map (number 0) rows) ≡ rows
+pub blocks-numbers : (rows : List (List ℕ)) → AllByRecursion (Block 16) rows → map block_of (map (number 0) rows) ≡ rows
 blocks-numbers [] h = refl
 blocks-numbers (r ∷ rs) h = ap₂ (λ y l. y ∷ l) (block_of-number r h.0) (blocks-numbers rs h.1)
 

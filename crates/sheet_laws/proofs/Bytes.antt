@@ -2,7 +2,7 @@
 use Rattle.std.proofs.Common.{◌≡◌, ℕ, ◌+◌, true, false, cond, eqb, List, [], ◌∷◌, ◌++◌, Some, None, Option, refl, ap, ◌∙◌, subst, ⊎_elim, arith}
 use Rattle.std.proofs.lemmas.Bool.{cases_Bool}
 use Rattle.std.proofs.lemmas.Bool.Decides.{not_from_Decides}
-use Rattle.std.specs.List.{AllByRecursion as All}
+use Rattle.std.specs.List.{AllByRecursion}
 use Rattle.sheet_format.specs.Orders.{is_allowed, bad_line, byte_fault}
 use Rattle.sheet_laws.specs.Grammar.{Iff}
 use Rattle.sheet_laws.specs.Meets.{Allowed, endings}
@@ -14,10 +14,10 @@ use Rattle.sheet_laws.proofs.Prefixes.{all_middle}
 abbrev FirstBad : List ℕ → ℕ → ℕ → Type 0
 FirstBad xs k j =
     (before : List ℕ) × (x : ℕ) × (after : List ℕ)
-    × (xs ≡ before ++ x ∷ after) × All Allowed before × (Allowed x → ⊥) × (j ≡ endings before + k)
+    × (xs ≡ before ++ x ∷ after) × AllByRecursion Allowed before × (Allowed x → ⊥) × (j ≡ endings before + k)
 
 abbrev pub BadLineTells : ℕ → List ℕ → Option ℕ → Type 0
-BadLineTells k xs None = All Allowed xs
+BadLineTells k xs None = AllByRecursion Allowed xs
 BadLineTells k xs (Some j) = FirstBad xs k j
 
 -- one more allowed byte in front
@@ -40,7 +40,7 @@ bad-line-tells k (x ∷ xs) =
 
 -- a text has one front before its first byte that is not allowed
 pub one-front : (before before' : List ℕ) (x x' : ℕ) (after after' : List ℕ) → before ++ x ∷ after ≡ before' ++ x' ∷ after'
-    → All Allowed before → All Allowed before' → (Allowed x → ⊥) → (Allowed x' → ⊥) → before ≡ before'
+    → AllByRecursion Allowed before → AllByRecursion Allowed before' → (Allowed x → ⊥) → (Allowed x' → ⊥) → before ≡ before'
 one-front [] [] x x' after after' e all all' bad bad' = refl
 one-front [] (y ∷ ys) x x' after after' e all all' bad bad' =
     let s : y ≡ x = cc in absurd (bad (subst Allowed s all'.0))
@@ -53,10 +53,10 @@ one-front (y ∷ ys) (z ∷ zs) x x' after after' e all all' bad bad' =
     cc
 
 -- a text with such a byte is not allowed throughout
-pub not-all-allowed : (xs : List ℕ) (k j : ℕ) → FirstBad xs k j → All Allowed xs → ⊥
-not-all-allowed xs k j bad all = bad.5 (all_middle Allowed bad.0 bad.1 bad.2 (subst (All Allowed) bad.3 all))
+pub not-all-allowed : (xs : List ℕ) (k j : ℕ) → FirstBad xs k j → AllByRecursion Allowed xs → ⊥
+not-all-allowed xs k j bad all = bad.5 (all_middle Allowed bad.0 bad.1 bad.2 (subst (AllByRecursion Allowed) bad.3 all))
 
 -- no byte is refused exactly where all are allowed
-pub bytes-unrefused : (k : ℕ) (xs : List ℕ) (o : Option ℕ) → BadLineTells k xs o → Iff (byte_fault o ≡ None) (All Allowed xs)
+pub bytes-unrefused : (k : ℕ) (xs : List ℕ) (o : Option ℕ) → BadLineTells k xs o → Iff (byte_fault o ≡ None) (AllByRecursion Allowed xs)
 bytes-unrefused k xs None all = (λ e. all, λ h. refl)
 bytes-unrefused k xs (Some j) bad = (λ e. clash (cc), λ h. absurd (not-all-allowed xs k j bad h))

@@ -4,7 +4,7 @@ use Rattle.std.proofs.ByRecursion.{has_get_or, Decides-by_and}
 use Rattle.std.proofs.lemmas.Slice.Eq.{bytes_eq-Decides}
 use Rattle.std.proofs.lemmas.Bool.{leb-true, le-leb}
 use Rattle.std.proofs.lemmas.Bool.Decides.{not_from_Decides, Decides-like, Decides-not, Decides-and, Decides-or, Decides-eqb, Decides-ltb, Decides-by_or}
-use Rattle.std.specs.List.{HoldsAt, ContainsAt as Has, AllByRecursion as All}
+use Rattle.std.specs.List.{HoldsAt, ContainsAt as Has, AllByRecursion}
 use Rattle.std.specs.Str.{bytes_eq}
 use Rattle.sheet_format.specs.Lines.{Body, blank, comment, cipher, body, Line}
 use Rattle.sheet_format.specs.Orders.{cipher_named, ciphers_in, bodies_in, counts, none_counts, is_empty, of_body, of_first, no_form, misplaced_cipher, too_many_bodies, bad_length, wrong_start_digits, has_name, name_taken, is_ctr, has_ctr_start, start_taken, too_many_blocks, ordered, total_blocks, is_allowed}
@@ -42,7 +42,7 @@ passed_over (Some comment) = yes (inr refl)
 passed_over (Some (cipher c)) = no (⊎_elim (λ e. clash (cc)) (λ e. clash (cc)))
 passed_over (Some (body b)) = no (⊎_elim (λ e. clash (cc)) (λ e. clash (cc)))
 
-none-counts : (lines : List Line) → Decides (none_counts lines) (All PassedOver lines)
+none-counts : (lines : List Line) → Decides (none_counts lines) (AllByRecursion PassedOver lines)
 none-counts = Decides-by_and (λ l. not (counts l)) PassedOver none_counts passed_over refl (λ _ _. refl)
 
 -- a test of the body that a line names

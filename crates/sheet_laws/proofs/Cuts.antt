@@ -2,13 +2,13 @@
 use Rattle.std.proofs.Common.{◌≡◌, ℕ, Bool, true, false, eqb, List, [], ◌∷◌, ◌++◌, Some, None, Option, sym, refl, ap, ◌∙◌, subst, ap₂, ⊎_elim}
 use Rattle.std.proofs.ByRecursion.{All-weaker}
 use Rattle.std.proofs.lemmas.Bool.{cases_Bool, eqb-true, eqb-false, eq-eqb, ne_eqb, both_ways}
-use Rattle.std.specs.List.{AllByRecursion as All}
+use Rattle.std.specs.List.{AllByRecursion}
 use Rattle.sheet_format.specs.Lines.{grown, cut_of}
 use Rattle.sheet_laws.specs.Grammar.{Lacks}
 use Rattle.sheet_laws.proofs.Clash.{clash}
 
 -- where every byte passes a test that `at` fails
-pub lacks-failing : (test : ℕ → Bool) (at : ℕ) → test at ≡ false → (xs : List ℕ) → All (λ x. test x ≡ true) xs → Lacks at xs
+pub lacks-failing : (test : ℕ → Bool) (at : ℕ) → test at ≡ false → (xs : List ℕ) → AllByRecursion (λ x. test x ≡ true) xs → Lacks at xs
 lacks-failing test at fails xs all =
     All-weaker (λ x. test x ≡ true) (λ x. x ≡ at → ⊥) (λ x t e. both_ways (test at) fails (rw e at t)) xs all
 

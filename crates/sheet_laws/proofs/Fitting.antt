@@ -1,6 +1,6 @@
 -- What a body line has to meet among the bodies before it, and the test of `line_fault` for it.
 use Rattle.std.proofs.Common.{◌≡◌, ℕ, ◌<◌, ◌≤◌, Bool, true, false, cond, not, ◌&&◌, ◌||◌, ltb, List, [], ◌∷◌, ◌++◌, map, length, Some, None, Decides, Option, refl, arith, length-append}
-use Rattle.std.specs.List.{AllByRecursion as All}
+use Rattle.std.specs.List.{AllByRecursion}
 use Rattle.std.specs.Str.{bytes_eq}
 use Rattle.std.proofs.ByRecursion.{All-push}
 use Rattle.std.proofs.lemmas.Slice.Eq.{bytes_eq-Decides}
@@ -26,8 +26,8 @@ DigitsFit c b = length b.start ≡ start_digits b.mode (block_length c)
 -- the bodies keep to the format, for the cipher c
 pub record Sound (c : CipherKind) (bs : List Body) : Type 0 where
   pub few : length bs ≤ 32
-  pub lengths : All LengthFits bs
-  pub digits : All (DigitsFit c) bs
+  pub lengths : AllByRecursion LengthFits bs
+  pub digits : AllByRecursion (DigitsFit c) bs
   pub names : NoTwo SameName bs
   pub starts : NoTwo SameCtrStart bs
   pub blocks : total_blocks (block_length c) (map ordered bs) ≤ 1000000
@@ -37,8 +37,8 @@ pub record Fits (c : CipherKind) (bs : List Body) (b : Body) : Type 0 where
   pub few : length bs < 32
   pub lengths : LengthFits b
   pub digits : DigitsFit c b
-  pub names : All (λ e. SameName e b → ⊥) bs
-  pub starts : All (λ e. SameCtrStart e b → ⊥) bs
+  pub names : AllByRecursion (λ e. SameName e b → ⊥) bs
+  pub starts : AllByRecursion (λ e. SameCtrStart e b → ⊥) bs
   pub blocks : total_blocks (block_length c) (map ordered (bs ++ b ∷ [])) ≤ 1000000
 
 pub sound_none : (c : CipherKind) → Sound c []
@@ -79,12 +79,12 @@ pub and-or : (x y z : Bool) → (x && (y || z)) ≡ ((x && y) || (x && z))
 and-or true y z = refl
 and-or false y z = refl
 
-name-untaken : (b : Body) (bs : List Body) → Decides (not (has_name b.name bs)) (All (λ e. SameName e b → ⊥) bs)
+name-untaken : (b : Body) (bs : List Body) → Decides (not (has_name b.name bs)) (AllByRecursion (λ e. SameName e b → ⊥) bs)
 name-untaken b =
     none-by-or (λ e. bytes_eq e.name b.name) (λ e. SameName e b) (has_name b.name)
     (λ e. bytes_eq-Decides e.name b.name) refl (λ _ _. refl)
 
-start-untaken : (b : Body) (bs : List Body) → Decides (not (is_ctr b.mode && has_ctr_start b.start bs)) (All (λ e. SameCtrStart e b → ⊥) bs)
+start-untaken : (b : Body) (bs : List Body) → Decides (not (is_ctr b.mode && has_ctr_start b.start bs)) (AllByRecursion (λ e. SameCtrStart e b → ⊥) bs)
 start-untaken b =
     none-by-or (shares_ctr_start b) (λ e. SameCtrStart e b) (λ es. is_ctr b.mode && has_ctr_start b.start es)
     (shares_ctr_start-decides b) (and_right (is_ctr b.mode) false refl)

@@ -4,7 +4,7 @@ use Rattle.std.proofs.ByRecursion.{All-append, Decides-by_and}
 use Rattle.std.proofs.lemmas.Slice.Eq.{bytes_eq-Decides}
 use Rattle.std.proofs.lemmas.Bool.{cases_Bool, eqb-true, and_parts}
 use Rattle.std.specs.Option.{option_map}
-use Rattle.std.specs.List.{AllByRecursion as All}
+use Rattle.std.specs.List.{AllByRecursion}
 use Rattle.std.specs.Str.{bytes_eq}
 use Rattle.hex_digits.specs.Hex.{is_hex_digit, all_hex_digits}
 use Rattle.sheet_format.specs.Digits.{is_decimal_digit, decimal_from, written, decimal_of}
@@ -37,25 +37,25 @@ mapped-some f (Some x) y e = (x, refl, some_same e)
 
 -- The bytes that the fields of a body line can have.
 
-pub start-digits : (xs : List ℕ) → is_start xs ≡ true → All (λ x. is_hex_digit x ≡ true) xs
+pub start-digits : (xs : List ℕ) → is_start xs ≡ true → AllByRecursion (λ x. is_hex_digit x ≡ true) xs
 start-digits [] e = tt
 start-digits (x ∷ xs) e =
     (Decides-by_and is_hex_digit (λ c. is_hex_digit c ≡ true) all_hex_digits (λ c. (λ t. t, λ t. t)) refl (λ c cs. refl) (x ∷ xs)).0 e
 
-digits_from : (n : ℕ) (xs : List ℕ) (m : ℕ) → decimal_from n xs ≡ Some m → All (λ x. is_decimal_digit x ≡ true) xs
+digits_from : (n : ℕ) (xs : List ℕ) (m : ℕ) → decimal_from n xs ≡ Some m → AllByRecursion (λ x. is_decimal_digit x ≡ true) xs
 digits_from n [] m e = tt
 digits_from n (x ∷ xs) m e =
     let g = given-some (is_decimal_digit x) (decimal_from (n * 10 + (x - 48)) xs) m e in
     (g.0, digits_from (n * 10 + (x - 48)) xs m g.1)
 
-pub decimal-digits : (xs : List ℕ) (d : Decimal) → decimal_of xs ≡ Some d → All (λ x. is_decimal_digit x ≡ true) xs
+pub decimal-digits : (xs : List ℕ) (d : Decimal) → decimal_of xs ≡ Some d → AllByRecursion (λ x. is_decimal_digit x ≡ true) xs
 decimal-digits [] d e = tt
 decimal-digits (x ∷ xs) d e =
     let g = given-some (leb (length (x ∷ xs)) 7) (option_map (written (x ∷ xs)) (decimal_from 0 (x ∷ xs))) d e in
     let m = mapped-some (written (x ∷ xs)) (decimal_from 0 (x ∷ xs)) d g.1 in
     digits_from 0 (x ∷ xs) m.0 m.1
 
-pub name-bytes : (xs : List ℕ) → is_name xs ≡ true → All (λ x. is_graphic x ≡ true) xs
+pub name-bytes : (xs : List ℕ) → is_name xs ≡ true → AllByRecursion (λ x. is_graphic x ≡ true) xs
 name-bytes [] e = tt
 name-bytes (x ∷ xs) e =
     (Decides-by_and is_graphic (λ c. is_graphic c ≡ true) all_graphic (λ c. (λ t. t, λ t. t)) refl (λ c cs. refl) (x ∷ xs)
@@ -128,7 +128,7 @@ fields-found xs b e =
     (cut-found 32 q.0.1 t.0.0 t.0.1 t.1).0 in
     subst (HasFields xs) (some_same k.1) (t.0.0, text, s.0, n.1, k.0)
 
-pub mode-graphic : (m : Mode) → All (λ x. is_graphic x ≡ true) (mode_word m)
+pub mode-graphic : (m : Mode) → AllByRecursion (λ x. is_graphic x ≡ true) (mode_word m)
 mode-graphic Ctr = (refl, (refl, (refl, tt)))
 mode-graphic Cbc = (refl, (refl, (refl, tt)))
 
@@ -190,7 +190,7 @@ form-made text (body b) h = ap form_of h.1 ∙ ap (option_map body) (fields_made
 spaced-lacks : (word rest : List ℕ) → Lacks 10 word → Lacks 10 rest → Lacks 10 (spaced word rest)
 spaced-lacks word rest w r = All-append (λ x. x ≡ 10 → ⊥) word (32 ∷ rest) w (λ e. omega arith, r)
 
-pub cipher-graphic : (c : CipherKind) → All (λ x. is_graphic x ≡ true) (cipher_word c)
+pub cipher-graphic : (c : CipherKind) → AllByRecursion (λ x. is_graphic x ≡ true) (cipher_word c)
 cipher-graphic Kuznyechik = (refl, (refl, (refl, tt)))
 cipher-graphic Magma = (refl, (refl, (refl, (refl, (refl, tt)))))
 

@@ -1,14 +1,14 @@
 -- The lines of a sheet, and that reading finds the forms of exactly the sheets that are written from them.
 use Rattle.std.proofs.Common.{◌≡◌, ℕ, true, false, cond, eqb, List, [], ◌∷◌, ◌++◌, map, Some, sym, refl, ap, ◌∙◌, subst, ap₂, ⊎_elim, append_assoc, arith}
 use Rattle.std.proofs.lemmas.Bool.{cases_Bool, eqb-true, eqb-false, ne_eqb}
-use Rattle.std.specs.List.{flat_map, AllByRecursion as All}
+use Rattle.std.specs.List.{flat_map, AllByRecursion}
 use Rattle.sheet_format.specs.Lines.{Row, ended, unended, on_first, rows_of, Form, form_of, line_of, lines_of}
 use Rattle.sheet_laws.specs.Grammar.{Lacks, HasForm, Written, ReadsWritten, bytes_of, text_of, LastUnended, LinesMakeSheet}
 use Rattle.sheet_laws.proofs.Clash.{clash}
 use Rattle.sheet_laws.proofs.Forms.{form-found, form-made, form-lacks}
 
 abbrev AllLack : List Row → Type 0
-AllLack rows = All (λ r. Lacks 10 (text_of r)) rows
+AllLack rows = AllByRecursion (λ r. Lacks 10 (text_of r)) rows
 
 first-bytes : (x : ℕ) (rows : List Row) → flat_map bytes_of (on_first x rows) ≡ x ∷ flat_map bytes_of rows
 first-bytes x [] = refl
@@ -74,7 +74,7 @@ rows_written (ended text ∷ rows) (f ∷ fs) h e =
 rows_written (unended text ∷ rows) (f ∷ fs) h e = clash (cc)
 
 -- lines that have forms read as them
-lines-read : (lines : List (List ℕ × Form)) → All (λ p. HasForm p.0 p.1) lines
+lines-read : (lines : List (List ℕ × Form)) → AllByRecursion (λ p. HasForm p.0 p.1) lines
     → lines_of (flat_map (λ p. p.0 ++ 10 ∷ []) lines) ≡ map (λ f. Some f) (map (λ p. p.1) lines)
 lines-read [] h = refl
 lines-read (p ∷ lines) h =

@@ -1,6 +1,6 @@
 -- The grammar of an order sheet: which texts have which form, and how lines make a sheet.
 use Rattle.std.specs.Prelude.{◌≡◌, ℕ, ◌<◌, true, List, [], ◌∷◌, ◌++◌, map, length, Some, None, codes, ◌≢◌}
-use Rattle.std.specs.List.{flat_map, AllByRecursion as All}
+use Rattle.std.specs.List.{flat_map, AllByRecursion}
 use Rattle.sheet_format.specs.Digits.{decimal_of}
 use Rattle.sheet_format.specs.Lines.{Row, ended, unended, rows_of, Body, Form, blank, comment, cipher, body, is_start, is_name, form_of, lines_of}
 use Rattle.sheet_format.specs.declared.CipherKind.{CipherKind}
@@ -29,7 +29,7 @@ body_text b digits = spaced (codes "b") (spaced (mode_word b.mode) (spaced b.sta
 
 -- no byte of the list is `at`
 abbrev pub Lacks : ℕ → List ℕ → Type 0
-Lacks at xs = All (λ x. x ≢ at) xs
+Lacks at xs = AllByRecursion (λ x. x ≢ at) xs
 
 -- the text, without its byte 10, has the form
 abbrev pub HasForm : List ℕ → Form → Type 0
@@ -44,7 +44,7 @@ HasForm text (body b) =
 abbrev pub Written : List ℕ → List Form → Type 0
 Written sheet forms =
     (lines : List (List ℕ × Form)) × (sheet ≡ flat_map (λ p. p.0 ++ 10 ∷ []) lines)
-    × All (λ p. HasForm p.0 p.1) lines × (map (λ p. p.1) lines ≡ forms)
+    × AllByRecursion (λ p. HasForm p.0 p.1) lines × (map (λ p. p.1) lines ≡ forms)
 
 -- reading finds the forms of exactly the sheets that are written so
 abbrev pub ReadsWritten : Type 0
@@ -69,7 +69,7 @@ LastUnended (unended text ∷ rows) = (0 < length text) × (rows ≡ [])
 abbrev pub LinesMakeSheet : Type 0
 LinesMakeSheet =
     (sheet : List ℕ)
-    → (flat_map bytes_of (rows_of sheet) ≡ sheet) × All (λ r. Lacks 10 (text_of r)) (rows_of sheet) × LastUnended (rows_of sheet)
+    → (flat_map bytes_of (rows_of sheet) ≡ sheet) × AllByRecursion (λ r. Lacks 10 (text_of r)) (rows_of sheet) × LastUnended (rows_of sheet)
 
 -- a line has no form exactly where none of the forms fits its text
 abbrev pub NoFormFits : Type 0

@@ -1,6 +1,6 @@
 -- When a fault meets a sheet, and in which order faults are looked at.
 use Rattle.std.specs.Prelude.{◌≡◌, ℕ, ◌+◌, ◌<◌, ◌≤◌, true, cond, ◌⊎◌, List, [], ◌∷◌, ◌++◌, map, length, Some, None, Ok, Err, ◌==◌, ◌≢◌}
-use Rattle.std.specs.List.{ContainsAt as Has, AllByRecursion as All}
+use Rattle.std.specs.List.{ContainsAt as Has, AllByRecursion}
 use Rattle.sheet_format.specs.Faults.{number_of, place_of}
 use Rattle.sheet_format.specs.Lines.{Body, blank, comment, cipher, body, Line, lines_of}
 use Rattle.sheet_format.specs.Orders.{Order, ciphers_in, bodies_in, ordered, total_blocks, order_of}
@@ -47,7 +47,7 @@ SheetCipher lines c = (more : List CipherKind) × (ciphers_in lines ≡ c ∷ mo
 -- the first line that counts, and no cipher line; or a second cipher line
 abbrev pub MisplacedAt : List Line → Line → Type 0
 MisplacedAt earlier l =
-    (All PassedOver earlier × (PassedOver l → ⊥) × ((c : CipherKind) → IsCipher l c → ⊥))
+    (AllByRecursion PassedOver earlier × (PassedOver l → ⊥) × ((c : CipherKind) → IsCipher l c → ⊥))
     ⊎ ((c : CipherKind) × (d : CipherKind) × IsCipher l c × Has earlier (Some (cipher d)))
 
 -- a 33rd body
@@ -83,7 +83,7 @@ abbrev pub Meets : List ℕ → SheetFault → Type 0
 Meets sheet TooLong = 4096 < length sheet
 Meets sheet (BadByte k) =
     (before : List ℕ) × (x : ℕ) × (after : List ℕ)
-    × (sheet ≡ before ++ x ∷ after) × All Allowed before × (Allowed x → ⊥) × (k ≡ endings before + 1)
+    × (sheet ≡ before ++ x ∷ after) × AllByRecursion Allowed before × (Allowed x → ⊥) × (k ≡ endings before + 1)
 Meets sheet (NoForm k) = AtLine sheet k (λ earlier l. l ≡ None)
 Meets sheet (MisplacedCipher k) = AtLine sheet k MisplacedAt ⊎ AtEnd sheet k (λ lines. ciphers_in lines ≡ [])
 Meets sheet (BodyCount k) = AtLine sheet k BodyCountAt ⊎ AtEnd sheet k (λ lines. bodies_in lines ≡ [])

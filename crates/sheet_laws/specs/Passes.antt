@@ -1,6 +1,6 @@
 -- Which sheets pass, and what they order.
 use Rattle.std.specs.Prelude.{◌≡◌, ℕ, ◌≤◌, false, List, [], ◌∷◌, map, length, Ok}
-use Rattle.std.specs.List.{flat_map, AllByRecursion as All}
+use Rattle.std.specs.List.{flat_map, AllByRecursion}
 use Rattle.sheet_format.specs.Lines.{Body, Form, blank, comment, cipher, body}
 use Rattle.sheet_format.specs.Orders.{Order, ordered, total_blocks, order_of}
 use Rattle.sheet_format.specs.Sizes.{block_length, start_digits}
@@ -18,7 +18,7 @@ counting (body b) = body b ∷ []
 -- no two of the list are alike
 abbrev pub NoTwo : {A : Type 0} → (A → A → Type 0) → List A → Type 0
 NoTwo Alike [] = Unit {0}
-NoTwo Alike (x ∷ xs) = All (λ y. Alike x y → ⊥) xs × NoTwo Alike xs
+NoTwo Alike (x ∷ xs) = AllByRecursion (λ y. Alike x y → ⊥) xs × NoTwo Alike xs
 
 abbrev pub SameName : Body → Body → Type 0
 SameName a b = a.name ≡ b.name
@@ -29,7 +29,7 @@ SameCtrStart a b = (a.mode ≡ Ctr) × (b.mode ≡ Ctr) × (a.start ≡ b.start)
 -- the sheet passes, and orders this
 pub record Passes (sheet : List ℕ) (o : Order) : Type 0 where
   pub short : length sheet ≤ 4096
-  pub bytes : All Allowed sheet
+  pub bytes : AllByRecursion Allowed sheet
   -- a row of ended lines
   pub forms : List Form
   pub lines : Written sheet forms
@@ -39,8 +39,8 @@ pub record Passes (sheet : List ℕ) (o : Order) : Type 0 where
   pub bodies : o.bodies ≡ map ordered named
   pub some : 1 ≤ length named
   pub few : length named ≤ 32
-  pub lengths : All (λ b. (b.len.value ≤ 1048576) × (b.len.padded ≡ false)) named
-  pub digits : All (λ b. length b.start ≡ start_digits b.mode (block_length o.cipher)) named
+  pub lengths : AllByRecursion (λ b. (b.len.value ≤ 1048576) × (b.len.padded ≡ false)) named
+  pub digits : AllByRecursion (λ b. length b.start ≡ start_digits b.mode (block_length o.cipher)) named
   pub names : NoTwo SameName named
   pub starts : NoTwo SameCtrStart named
   pub blocks : total_blocks (block_length o.cipher) o.bodies ≤ 1000000

@@ -1,5 +1,5 @@
 use Rattle.std.proofs.Common.{◌≡◌, ◌+◌, true, ◌++◌, map, length, take}
-use Rattle.std.specs.List.{AllByRecursion as All}
+use Rattle.std.specs.List.{AllByRecursion}
 use Rattle.sheet_format.specs.Lines.{lines_of}
 use Rattle.sheet_format.specs.Orders.{bodies_in as bodies_named, ordered}
 use Rattle.sheet_format.specs.Sizes.{block_length}
@@ -14,7 +14,7 @@ invariant-loop-item l =
     × (l.count + length (bodies_named (lines_of l.lines.rest.now)) ≡ length (bodies_named (lines_of l.sheet)))
     × (bodies_in (block_length l.cipher) l.count l.rows ++ map ordered (bodies_named (lines_of l.lines.rest.now)) ≡ map ordered (bodies_named (lines_of l.sheet)))
     × (are_held (block_length l.cipher) (take l.count l.rows) ≡ true)
-    × All (FitLine (block_length l.cipher)) (bodies_named (lines_of l.lines.rest.now))
+    × AllByRecursion (FitLine (block_length l.cipher)) (bodies_named (lines_of l.lines.rest.now))
 
 abbrev pub decreases-loop-item : goal.decreases-loop-item
 decreases-loop-item l = length (lines_of l.lines.rest.now)
