@@ -1,5 +1,6 @@
 // Runs the block ciphers on each vector of the table on standard input, both ways, and says where they do another thing than the table.
 #![tactic(auto)]
+
 ghost use Rattle.std.specs.Prelude.{◌≡◌, ℕ, ◌+◌, ◌-◌, ◌^◌, ◌≤◌, min, false, not, ◌||◌, IfOk, if◌then◌else◌};
 ghost use Rattle.hex_digits.specs.Hex.{hex_bytes};
 ghost use Rattle.kuznyechik_spec.specs.Kuznyechik.{kuznyechik};
