@@ -1,5 +1,6 @@
 // Runs our functions on each value of the standard's examples, in the table on standard input, and says where they make another.
 #![tactic(auto)]
+
 ghost use Rattle.std.specs.Prelude.{◌≡◌, ℕ, ◌+◌, ◌-◌, ◌^◌, ◌≤◌, min, true, IfOk, if◌then◌else◌};
 ghost use Rattle.hex_digits.specs.Hex.{hex_bytes};
 ghost use Rattle.annex_tests.specs.Agreement.{Makes};
