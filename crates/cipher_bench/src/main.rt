@@ -1,6 +1,7 @@
 // Measures the block ciphers: `cipher_bench MEGABYTES` prints how many megabytes a second each of them enciphers and deciphers.
 // With no argument it says so, and measures nothing.
 #![tactic(auto)]
+
 ghost use Rattle.std.specs.Prelude.{◌≡◌, ◌-◌, ◌*◌, ◌/◌, ◌^◌, ◌<◌, min, max, true, false, length, ◌==◌, ◌≢◌};
 ghost use Rattle.block.specs.Blocks.{Same, block_after};
 ghost use Rattle.cipher_bench.specs.Ways.{way_of};
