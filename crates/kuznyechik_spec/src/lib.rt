@@ -1,5 +1,6 @@
 // Kuznyechik as the standard defines it. Its definitions are in specs; each function here carries a theorem about them.
 #![tactic(auto)]
+
 ghost use Rattle.kuznyechik_spec.specs.Field.{MultiplyIsProduct};
 ghost use Rattle.kuznyechik_spec.specs.Laws.{InverseTransformations, LawfulWithEveryKey, RoundsByTables};
 
