@@ -2,25 +2,25 @@
 use Rattle.std.specs.Prelude.{◌≡◌, ℕ, zero, suc, ◌+◌, ◌-◌, ◌*◌, ◌/◌, ◌%◌, ◌^◌, ◌<◌, ◌≤◌, List, [], ◌∷◌, length, drop, bit_and, bit_or, slice_index, slice_index_or, refl}
 use Rattle.std.proofs.Common.{ap, ◌∙◌, add-one, div-one, arith, length-drop, pow_mono, drop-cons, lit<, rules}
 use Rattle.std.proofs.Math.Nat.{mul-mod_left}
-use Rattle.std.specs.List.{AllByRecursion as All}
+use Rattle.std.specs.List.{AllByRecursion}
 use Rattle.std.proofs.lemmas.Nat.{shr-shr, shr_below, shl-shr, mod-pow-add, pow-add, shl_whole, or_shifted, and_mask}
 use Rattle.magma.specs.Magma.{rows, row_at, substituted, t, rotated, g}
 
 -- each number of a row is below sixteen
 abbrev pub Small : List ℕ → Type 0
-Small r = All (λ x. x < 16) r
+Small r = AllByRecursion (λ x. x < 16) r
 
 pub row_small : (r : List ℕ) (x : ℕ) → Small r → slice_index r x < 16
 row_small [] x h = omega arith
 row_small (y ∷ r) zero h = h.0
 row_small (y ∷ r) (suc x) h = row_small r x h.1
 
-pub of-rows-small : (rs : List (List ℕ)) (i : ℕ) → All Small rs → Small (slice_index_or rs i [])
+pub of-rows-small : (rs : List (List ℕ)) (i : ℕ) → AllByRecursion Small rs → Small (slice_index_or rs i [])
 of-rows-small [] i h = tt
 of-rows-small (r ∷ rs) zero h = h.0
 of-rows-small (r ∷ rs) (suc i) h = of-rows-small rs i h.1
 
-pub rows-small : All Small rows
+pub rows-small : AllByRecursion Small rows
 unfolding rows
 rows-small = search rules
 
@@ -34,12 +34,12 @@ step rs a i h =
     let e : 4 * (i + 1) ≡ 4 * i + 4 = omega arith in
     rw (drop-cons rs i [], e, ← shr-shr a (4 * i) 4, add-one)
 
-smalls-drop : (i : ℕ) (rs : List (List ℕ)) → All Small rs → All Small (drop i rs)
+smalls-drop : (i : ℕ) (rs : List (List ℕ)) → AllByRecursion Small rs → AllByRecursion Small (drop i rs)
 smalls-drop zero rs h = h
 smalls-drop (suc i) [] h = tt
 smalls-drop (suc i) (r ∷ rs) h = smalls-drop i rs h.1
 
-pub substituted-below : (rs : List (List ℕ)) (a : ℕ) → All Small rs → substituted rs a < 2 ^ (4 * length rs)
+pub substituted-below : (rs : List (List ℕ)) (a : ℕ) → AllByRecursion Small rs → substituted rs a < 2 ^ (4 * length rs)
 substituted-below [] a h = lit< tt
 substituted-below (r ∷ rs) a h =
     let e : 4 * suc (length rs) ≡ 4 * length rs + 4 = omega arith in
