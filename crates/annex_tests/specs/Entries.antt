@@ -1,16 +1,12 @@
 -- What a line of the table is.
 use Rattle.std.specs.Prelude.{◌≡◌, ℕ, Bool, true, false, List, [], ◌∷◌, ◌++◌, codes, ◌==◌}
-use Rattle.annex_tests.specs.declared.table.BlockStep.{BlockStep}
 use Rattle.annex_tests.specs.declared.table.BlockStep.TheVariants.{S, InverseS, R, L, InverseL}
 use Rattle.annex_tests.specs.declared.table.Entry.{Entry}
 use Rattle.annex_tests.specs.declared.table.Entry.TheVariants.{Comment, Example, Neither}
-use Rattle.annex_tests.specs.declared.table.KeyedStep.{KeyedStep}
 use Rattle.annex_tests.specs.declared.table.KeyedStep.TheVariants.{X, Lsx, InverseLsx}
-use Rattle.annex_tests.specs.declared.table.RoundStep.{RoundStep}
 use Rattle.annex_tests.specs.declared.table.RoundStep.TheVariants.{Inner, Last}
 use Rattle.annex_tests.specs.declared.table.Step.{Step}
 use Rattle.annex_tests.specs.declared.table.Step.TheVariants.{Block, Keyed, IterationConstant, FeistelRound, RoundKey, Word, MagmaRoundKey, Round}
-use Rattle.annex_tests.specs.declared.table.WordStep.{WordStep}
 use Rattle.annex_tests.specs.declared.table.WordStep.TheVariants.{T, G}
 
 -- it is empty, or begins with `#`

@@ -74,6 +74,6 @@ fn run_table(rt: &HostRuntime) -> anyhow::Result<Tally>
 
 fn main(rt: HostRuntime) -> anyhow::Result<()> {
     let Tally { values, differ } = run_table(&rt)?;
-    (println!(rt; "{values} values, {differ} differ"))?;
+    println!(rt; "{values} values, {differ} differ")?;
     Ok(())
 }

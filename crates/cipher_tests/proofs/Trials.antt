@@ -1,29 +1,12 @@
--- What a call that was not refused has made.
-use Rattle.std.proofs.Common.{◌≡◌, ℕ, ◌<◌, Bool, true, false, cond, not, ◌||◌, eqb, List, [], ◌∷◌, length, IfOk, Ok, Err, Result, unwrap_or, sym, refl, ◌∙◌, subst, arith, tests}
-use Rattle.std.proofs.lemmas.Bool.{eqb-true, or_parts}
+-- What trials show of ciphers that mean the same.
+use Rattle.std.proofs.Common.{◌≡◌, ℕ, ◌<◌, Bool, true, false, not, ◌||◌, List, [], ◌∷◌, length, IfOk, Ok, Err, Result, unwrap_or, sym, refl, ◌∙◌, arith, tests}
+use Rattle.std.proofs.lemmas.Bool.{or_parts}
 use Rattle.std.specs.List.{AllByRecursion}
 use Rattle.hex_digits.specs.Hex.{hex_bytes, hex_value}
-use Rattle.block.specs.Blocks.{Block, Meaning, Same, block_after, block_answer}
-use Rattle.block.specs.declared.BlockFault.{BlockFault}
-use Rattle.block.specs.declared.BlockFault.TheVariants.{BlockLength}
-use Rattle.cipher_tests.specs.Agreement.{Agrees, Confirms, Deciphers, Enciphers, Makes}
+use Rattle.block.specs.Blocks.{Block, Meaning, Same}
+use Rattle.cipher_tests.specs.Agreement.{Agrees, Confirms, Deciphers, Enciphers}
 use Rattle.cipher_tests.specs.declared.table.Vector.{Vector}
 use Rattle.cipher_tests.specs.declared.trial.Trial.{Trial}
-
-abbrev IsOk : Result (Unit {0}) BlockFault → Type 0
-IsOk (Ok u) = Unit {0}
-IsOk (Err e) = ⊥
-
-abbrev answer : Bool → Result (Unit {0}) BlockFault
-answer t = cond t (Ok tt) (Err BlockLength)
-
-by-test : (n : ℕ) (f : List ℕ → List ℕ) (b after : List ℕ) (t : Bool) → (t ≡ true → length b ≡ n) → answer t ≡ Ok tt
-    → cond t (f b) b ≡ after → Makes n f b after
-by-test n f b after true d p q = (d refl, q)
-by-test n f b after false d p q = absurd (subst IsOk (sym p) tt)
-
-pub makes-from : (n : ℕ) (f : List ℕ → List ℕ) (b after : List ℕ) → block_answer n (length b) ≡ Ok tt → block_after n f b ≡ after → Makes n f b after
-makes-from n f b after p q = by-test n f b after (eqb (length b) n) (eqb-true (length b) n) p q
 
 digit-small : (x : ℕ) → unwrap_or (hex_value x) 0 < 16
 digit-small x = grind (arith, tests)

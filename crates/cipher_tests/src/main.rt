@@ -100,6 +100,6 @@ fn run_table(rt: &HostRuntime) -> anyhow::Result<Tally>
 
 fn main(rt: HostRuntime) -> anyhow::Result<()> {
     let Tally { vectors, differ } = run_table(&rt)?;
-    (println!(rt; "{vectors} vectors, {differ} differ"))?;
+    println!(rt; "{vectors} vectors, {differ} differ")?;
     Ok(())
 }

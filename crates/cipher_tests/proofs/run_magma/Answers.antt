@@ -7,8 +7,8 @@ use Rattle.cipher_tests.proofs.run_magma.Goals as goal
 
 pub returns : goal.returns
 returns c =
-    let t = c.in-ok-trial.trial in
+    let t = c.in_ok-trial.trial in
     let m = magma (hex_bytes c.args.vector.key.now) in
     let h : Confirms t m c.args.vector = search rules in
-    let d : c.in-ok-differs.differs ≡ (not t.enciphers || not t.deciphers) = search rules in
+    let d : c.in_ok-differs.differs ≡ (not t.enciphers || not t.deciphers) = search rules in
     λ e. agrees_from t m c.args.vector h (sym d ∙ e)

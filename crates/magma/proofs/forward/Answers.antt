@@ -1,5 +1,5 @@
 -- E round by round.
-use Rattle.std.proofs.Common.{◌≡◌, ℕ, ◌+◌, ◌-◌, length, drop, sym, ap, ◌∙◌, arith, rules}
+use Rattle.std.proofs.Common.{◌≡◌, ℕ, ◌+◌, length, drop, sym, ap, ◌∙◌, arith, rules}
 use Rattle.magma.specs.Magma.{composed, halves, joined_halves, last_g, round_g, round_keys, enciphered}
 use Rattle.magma.specs.Rounds.{more, last}
 use Rattle.magma.specs.Bytes.{keys_length}

@@ -1,5 +1,5 @@
 -- D round by round.
-use Rattle.std.proofs.Common.{◌≡◌, ℕ, ◌+◌, ◌-◌, reverse, length, drop, sym, ap, ◌∙◌, arith, rules}
+use Rattle.std.proofs.Common.{◌≡◌, ℕ, ◌+◌, reverse, length, drop, sym, ap, ◌∙◌, arith, rules}
 use Rattle.magma.specs.Magma.{composed, halves, joined_halves, last_g, round_g, round_keys, deciphered}
 use Rattle.magma.specs.Rounds.{more, last}
 use Rattle.magma.specs.Bytes.{reversed-key, reversed-length}

@@ -4,6 +4,6 @@ use Rattle.cipher_tests.proofs.table.read_vector.Goals as goal
 
 pub returns : goal.returns
 returns c =
-    let p = split_text_parts (codes " ") c.args.words.now c.split-once.result c.split-once.ensures.cases in
-    let q = split_text_parts (codes " ") _ c.split-once-2.result c.split-once-2.ensures.cases in
+    let p = split_text_parts (codes " ") c.args.words.now c.split_once.result c.split_once.ensures.cases in
+    let q = split_text_parts (codes " ") _ c.split_once-2.result c.split_once-2.ensures.cases in
     search (rules, p, q)

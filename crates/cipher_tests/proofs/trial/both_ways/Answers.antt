@@ -9,5 +9,5 @@ returns g c =
     let m = g.C.BlockCipher.meaning c.args.cipher.now in
     let o = g.C.BlockCipher.meaning c.enciphers.new.cipher in
     let s : Same m o = search rules in
-    let d : (c.in-ok-back.back ≡ true → Deciphers o c.args.vector) = search rules in
+    let d : (c.in_ok-back.back ≡ true → Deciphers o c.args.vector) = search rules in
     (search rules, λ p. deciphers-before m o c.args.vector s (d p))
