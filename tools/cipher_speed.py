@@ -1,11 +1,11 @@
 #!/usr/bin/env python3
 """Prints how fast the ciphers are beside OpenSSL's GOST provider, in one run, in megabytes a second.
 
-    rt check cipher_bench && python3 tools/cipher_speed.py [MEGABYTES]
+    (cd crates/cipher_bench && rt run) && python3 tools/cipher_speed.py [MEGABYTES]
 
-Ours is target/bin/cipher_bench: blocks of pieces of 4,096 bytes, enciphered and deciphered one after the other through
-the trait. The provider's is `openssl speed` over pieces of 4,096 bytes: Kuznyechik by ecb; it has no ecb of Magma, so
-ctr stands for enciphering and cbc for deciphering there. OPENSSL_MODULES may name the folder of gostprov.so.
+Ours is crates/cipher_bench/out/cipher_bench: blocks of pieces of 4,096 bytes, enciphered and deciphered one after the
+other through the trait. The provider's is `openssl speed` over pieces of 4,096 bytes: Kuznyechik by ecb; it has no ecb
+of Magma, so ctr stands for enciphering and cbc for deciphering there. OPENSSL_MODULES may name the folder of gostprov.so.
 
 The two are run in turn, five times, and the best of each is taken, since other work on the machine only slows a run
 down. The ratio is ours to the provider's; only ratios of one run mean anything.
@@ -32,7 +32,7 @@ def provider(words):
 
 
 def ours(megabytes):
-    out = subprocess.run(["target/bin/cipher_bench", megabytes], capture_output=True, text=True, check=True).stdout
+    out = subprocess.run(["crates/cipher_bench/out/cipher_bench", megabytes], capture_output=True, text=True, check=True).stdout
     for line in out.splitlines():
         name, *speeds = line.split()
         for way, speed in zip(("encipher", "decipher"), speeds):

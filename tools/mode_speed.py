@@ -1,11 +1,12 @@
 #!/usr/bin/env python3
 """Prints how fast the modes and the MAC are beside OpenSSL's GOST provider, in one run, in megabytes a second.
 
-    rt check mode_bench && python3 tools/mode_speed.py [MEGABYTES]
+    (cd crates/mode_bench && rt run) && python3 tools/mode_speed.py [MEGABYTES]
 
-Ours is target/bin/mode_bench, Kuznyechik by tables and Magma; the provider is called through libcrypto's EVP calls
-(tools/gost_provider.py), one call for each piece; what the same calls take on no bytes is taken off. Both go over pieces of 4,096 bytes: ctr, cbc sealing and opening, the
-MAC, and ctr with the MAC of the same bytes under a second key, as a set seals its bodies.
+Ours is crates/mode_bench/out/mode_bench, Kuznyechik by tables and Magma; the provider is called through libcrypto's EVP
+calls (tools/gost_provider.py), one call for each piece; what the same calls take on no bytes is taken off. Both go over
+pieces of 4,096 bytes: ctr, cbc sealing and opening, the MAC, and ctr with the MAC of the same bytes under a second key,
+as a set seals its bodies.
 
 The two are run in turn, sixty times, a short while each, and the best of each is taken, since other work on the machine
 only slows a run down. The ratio is ours to the provider's; only ratios of one run mean anything.
@@ -60,7 +61,7 @@ def theirs(provider, megabytes):
 
 
 def ours(megabytes):
-    out = subprocess.run(["target/bin/mode_bench", str(megabytes)], capture_output=True, text=True, check=True).stdout
+    out = subprocess.run(["crates/mode_bench/out/mode_bench", str(megabytes)], capture_output=True, text=True, check=True).stdout
     for line in out.splitlines():
         cipher, work, speed = line.split()
         yield (cipher, work), float(speed)

@@ -3,10 +3,10 @@
 
 ghost use Rattle.std.specs.Prelude.{◌≤◌, length, IfOk};
 
-use anyhow::anyhow;
 use listing::list_sheet;
 use std::io;
 use std::io::{Read, Write};
+use std::process::ExitCode;
 
 // One byte more than a sheet may have, so that a longer one is told and no more of it is read.
 const LIMIT: usize = 4_097;
@@ -26,14 +26,14 @@ fn read_front(input: &mut impl Read, buffer: &mut [u8]) -> io::Result<usize>
     Ok(len)
 }
 
-fn main(rt: HostRuntime) -> anyhow::Result<()> {
+fn main(rt: HostRuntime) -> anyhow::Result<ExitCode> {
     let mut buffer = [0u8; LIMIT];
     let len = read_front(&mut rt.stdin(), &mut buffer)?;
     let listing = list_sheet(rt.alloc(), &buffer[0..len])?;
     rt.stdout().write_all(&listing.text)?;
     if listing.accepted {
-        Ok(())
+        Ok(ExitCode::SUCCESS)
     } else {
-        Err(anyhow!("the sheet is refused"))
+        Ok(ExitCode::FAILURE)
     }
 }

@@ -76,6 +76,6 @@ fn run_table(rt: &HostRuntime) -> anyhow::Result<Tally>
 
 fn main(rt: HostRuntime) -> anyhow::Result<()> {
     let Tally { cases, differ } = run_table(&rt)?;
-    (println!(rt; "{cases} cases, {differ} differ"))?;
+    println!(rt; "{cases} cases, {differ} differ")?;
     Ok(())
 }
