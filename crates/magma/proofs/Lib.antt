@@ -1,3 +1,3 @@
--- The lemmas: rows, rounds, bytes, the law, and the wide table.
+-- The lemmas of the wide table.
 pub mod Tested
 pub mod Wide

@@ -1,4 +1,4 @@
--- The definitions of Magma, what a prepared Magma means, its wide table, and what is proved.
+-- The definitions of Magma, what a prepared Magma means, its wide table, what is proved, and the lemmas below its law, which the impl cites.
 pub mod Magma
 pub mod Prepared
 pub mod Tables
