@@ -4,9 +4,10 @@
 ghost use Rattle.std.specs.Prelude.{◌≡◌, ℕ, ◌+◌, ◌/◌, ◌≤◌, List, length, replicate};
 ghost use Rattle.block.specs.Blocks.{Lawful, Meaning, Same, block_after, block_answer};
 ghost use Rattle.block.specs.Keys.{code_of, key_of};
+ghost use Rattle.block.specs.declared.BlockFault.TheVariants.{KeyText};
 
 use fault::FaultCode;
-use hex_digits::hex_digit;
+use hex_digits::{NotHex, read_hex};
 
 // Why a block or a key text is refused.
 #[derive(Clone, Copy, PartialEq, Eq, Debug)]
@@ -80,29 +81,25 @@ impl Drop for ClearText<'_> {
     fn drop(self)
         ensures { self.exit.0.now ≡ replicate (length self.entry.0.now) 0 }
     {
-        for b in self.0.iter_mut() {
-            *b = 0;
-        }
+        self.0.fill(0);
         let ClearText(_) = self;
+    }
+}
+
+// A text that is no key.
+impl From<NotHex> for BlockFault {
+    ghost from_gives = { λ _ r. r ≡ KeyText };
+
+    fn from(_text: NotHex) -> BlockFault {
+        BlockFault::KeyText
     }
 }
 
 fn key_bytes(text: &[u8]) -> Result<[u8; 32], BlockFault>
     ensures { result ≡ key_of text.now }
 {
-    if text.len() != 64 {
-        return Err(BlockFault::KeyText);
-    }
     let mut key = [0u8; 32];
-    for i in 0..32 {
-        let Some(high) = hex_digit(text[2 * i]) else {
-            return Err(BlockFault::KeyText);
-        };
-        let Some(low) = hex_digit(text[2 * i + 1]) else {
-            return Err(BlockFault::KeyText);
-        };
-        key[i] = 16 * high + low;
-    }
+    read_hex(text, &mut key)?;
     Ok(key)
 }
 
