@@ -1,12 +1,11 @@
 -- How a chaining register goes on.
-use Rattle.std.proofs.Common.{◌≡◌, ℕ, suc, ◌+◌, ◌-◌, ◌*◌, ◌/◌, ◌%◌, ◌<◌, ◌≤◌, Bool, cond, List, [], ◌∷◌, ◌++◌, length, get_or, take, drop, set, sym, ap, ◌∙◌, ap₂, mul_comm, mul-zero, mul-suc, arith, take-add}
+use Rattle.std.proofs.Common.{◌≡◌, ℕ, suc, ◌+◌, ◌-◌, ◌*◌, ◌/◌, ◌%◌, ◌<◌, ◌≤◌, List, [], ◌∷◌, ◌++◌, length, get_or, take, drop, set, sym, ap, ◌∙◌, ap₂, mul_comm, mul-zero, mul-suc, arith, take-add}
 use borrow.Rule.Slice.PartMut.{put_mid, post_of}
 use lib.Bits.{bit_xor}
 use Rattle.std.proofs.lemmas.Nat.{div-mul-add, mod-mul-add}
 use Rattle.std.proofs.ByRecursion.{All-append}
 use Rattle.std.proofs.lemmas.List.{append-nil, length-append, length-take, length-drop, take_at, drop_at, take_all, take-take, drop-take, drop_all, drop-append-le, length-replicate}
-use Rattle.std.proofs.lemmas.Bool.{eq-eqb}
-use Rattle.block.specs.Blocks.{Block, Meaning, Lawful, Same, block_after, Bytes}
+use Rattle.block.specs.Blocks.{Block, Meaning, Lawful, Same, Bytes}
 use Rattle.block.proofs.Bytes.{xor-list-comm}
 use Rattle.modes_spec.specs.Cbc.{chained}
 use Rattle.modes_spec.specs.Texts.{◌⊕◌, block_at, joined_front, zeros, filled}
@@ -18,13 +17,13 @@ use Rattle.modes.specs.declared.chain.Chain.{Chain}
 -- ---- what the calls leave in the register
 
 pub advanced : (m : Meaning) (n : ℕ) (reg X : List ℕ) → n ≡ m.size → n ≤ 16 → length reg ≡ 16
-    → length X ≡ length (take (n - 0) reg) → X ≡ block_after m.size m.forward (take (n - 0) reg)
+    → length X ≡ length (take (n - 0) reg) → X ≡ m.forward (take (n - 0) reg)
     → (take m.size (X ++ post_of 0 (n - 0) reg) ≡ m.forward (take m.size reg)) × (length (X ++ post_of 0 (n - 0) reg) ≡ 16)
 advanced m n reg X es small lr lx ex =
     let z : n - 0 ≡ m.size = omega arith in
     let lt : length (take (n - 0) reg) ≡ m.size = simp length-take (omega arith) in
     let ex2 : X ≡ m.forward (take m.size reg) =
-    ex ∙ ap (λ (b : Bool). cond b (m.forward (take (n - 0) reg)) (take (n - 0) reg)) (eq-eqb _ m.size lt) ∙ ap (λ (k : ℕ). m.forward (take k reg)) z in
+    ex ∙ ap (λ (k : ℕ). m.forward (take k reg)) z in
     (take_at X (post_of 0 (n - 0) reg) m.size (lx ∙ lt) ∙ ex2, simp (length-append, length-drop) (omega arith))
 
 pub joined-behind : (reg piece W : List ℕ) (f r : ℕ) → length reg ≡ 16 → f ≤ 16 → W ≡ joined_front (take (16 - f) (drop f reg)) (take (r - 0) piece)

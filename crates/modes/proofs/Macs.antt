@@ -11,8 +11,8 @@ use Rattle.block.proofs.Bytes.{xor-list-comm}
 use Rattle.modes_spec.specs.Cbc.{chained}
 use Rattle.modes_spec.proofs.Mac.{subkeys-same, subkey1-block, subkey2-block}
 use Rattle.modes_spec.proofs.Texts.{take-joined-front, joined-front-whole}
-use Rattle.block.specs.Blocks.{Block, Meaning, Lawful, Same, block_after, Bytes}
-use Rattle.modes_spec.specs.Mac.{blocks_before, last_block, ends_whole, doubled, subkey1, subkey2, mac}
+use Rattle.block.specs.Blocks.{Block, Meaning, Lawful, Same, Bytes}
+use Rattle.modes_spec.specs.Mac.{blocks_before, last_block, ends_whole, subkey1, subkey2, mac}
 use Rattle.modes_spec.specs.Texts.{◌⊕◌, joined_front, zeros, filled}
 use Rattle.modes_spec.proofs.Cbc.{size-pos, zeros-bytes, bytes-filled, block-xor, chained_append, chained-block}
 use Rattle.modes.specs.ChainState.{ChainAt}
@@ -217,14 +217,3 @@ pub subkey-made : (m : Meaning) (n : ℕ) (K T : List ℕ) → n ≡ m.size → 
 subkey-made m n K T es et =
     let z : n - 0 ≡ m.size = omega arith in
     ap₂ (λ (a b : List ℕ). a ++ b) et (ap (λ (k : ℕ). drop k (replicate 16 0)) z ∙ drop-replicate m.size 16 0)
-
--- E of the zero block doubled once or twice
-pub subkey-written : (m : Meaning) (F X Y : List ℕ) → length F ≡ m.size → F ≡ replicate (length F) 0
-    → X ≡ block_after m.size m.forward F → length X ≡ length F → Y ≡ doubled (length X) X → Y ≡ subkey1 m
-subkey-written m F X Y lf ef ex lx ey =
-    let e : X ≡ m.forward (zeros m.size) =
-    ex ∙ ap (λ (b : Bool). cond b (m.forward F) F) (eq-eqb _ m.size lf) ∙ ap m.forward (ef ∙ ap (λ (k : ℕ). replicate k 0) lf) in
-    ey ∙ ap₂ doubled (lx ∙ lf) e
-
-pub subkey-again : (m : Meaning) (Y Z : List ℕ) → Y ≡ subkey1 m → length Y ≡ m.size → Z ≡ doubled (length Y) Y → Z ≡ subkey2 m
-subkey-again m Y Z ey ly ez = ez ∙ ap₂ doubled ly ey

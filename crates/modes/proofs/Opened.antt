@@ -7,7 +7,7 @@ use Rattle.std.proofs.lemmas.List.{append-nil, append_assoc, length-append, leng
 use Rattle.std.proofs.lemmas.Slice.{take-put_mid}
 use Rattle.std.proofs.lemmas.Bool.{cases_lt, eq-eqb, ne_eqb, cond_above, and_parts, ltb-true}
 use Rattle.block.proofs.Bytes.{length-xor}
-use Rattle.block.specs.Blocks.{Block, Meaning, Lawful, Same, block_after, Bytes}
+use Rattle.block.specs.Blocks.{Block, Meaning, Lawful, Same, Bytes}
 use Rattle.modes_spec.specs.Cbc.{register_at, opened_block, opened_blocks}
 use Rattle.modes_spec.specs.Texts.{◌⊕◌, block_at, joined_front, joined_to, zeros}
 use Rattle.modes_spec.proofs.Cbc.{size-pos, block-whole}
@@ -32,13 +32,13 @@ collected block piece W f r lb h lp ew =
     )
 
 pub block-opened : (m : Meaning) (n : ℕ) (block previous C D J : List ℕ) → n ≡ m.size → n ≤ 16 → length block ≡ 16 → length previous ≡ 16
-    → C ≡ take (n - 0) block → length D ≡ length C → D ≡ block_after m.size m.inverse C → J ≡ joined_front D (take (n - 0) previous)
+    → C ≡ take (n - 0) block → length D ≡ length C → D ≡ m.inverse C → J ≡ joined_front D (take (n - 0) previous)
     → J ≡ m.inverse (take m.size block) ⊕ take m.size previous
 block-opened m n block previous C D J es small lb lp ec ld ed ej =
     let z : n - 0 ≡ m.size = omega arith in
     let c2 : C ≡ take m.size block = ec ∙ ap (λ (k : ℕ). take k block) z in
     let lc : length C ≡ m.size = ap length c2 ∙ simp length-take (omega arith) in
-    let d2 : D ≡ m.inverse (take m.size block) = ed ∙ ap (λ (b : Bool). cond b (m.inverse C) C) (eq-eqb _ m.size lc) ∙ ap m.inverse c2 in
+    let d2 : D ≡ m.inverse (take m.size block) = ed ∙ ap m.inverse c2 in
     let lq : length (take m.size previous) ≡ m.size = simp length-take (omega arith) in
     ej ∙ ap (λ (k : ℕ). joined_front D (take k previous)) z ∙ joined-front-whole D (take m.size previous) (ld ∙ lc ∙ sym lq) ∙ ap (λ (x : List ℕ). x ⊕ take m.size previous) d2
 

@@ -1,12 +1,12 @@
 -- How a ctr stream begins and goes on.
-use Rattle.std.proofs.Common.{◌≡◌, ℕ, suc, ◌+◌, ◌-◌, ◌*◌, ◌/◌, ◌%◌, ◌^◌, ◌<◌, ◌≤◌, min, Bool, cond, List, [], ◌++◌, length, take, drop, replicate, sym, refl, ap, ◌∙◌, subst, ap₂, ⊎_elim, mul-zero, mul-suc, add-one, arith, take-add}
+use Rattle.std.proofs.Common.{◌≡◌, ℕ, suc, ◌+◌, ◌-◌, ◌*◌, ◌/◌, ◌%◌, ◌^◌, ◌<◌, ◌≤◌, min, List, [], ◌++◌, length, take, drop, replicate, sym, refl, ap, ◌∙◌, subst, ap₂, ⊎_elim, mul-zero, mul-suc, add-one, arith, take-add}
 use native.Mathlib.Nat.{mod-add-mod}
 use borrow.Rule.Slice.PartMut.{put_mid, post_of}
 use Rattle.std.proofs.ByRecursion.{All-take}
 use Rattle.std.proofs.lemmas.List.{append_assoc, length-append, length-take, length-drop, take_at, take-take, drop-take, drop-drop, take_rest}
 use Rattle.std.proofs.lemmas.Slice.{take-put_mid}
-use Rattle.std.proofs.lemmas.Bool.{eq-eqb, cases_lt}
-use Rattle.block.specs.Blocks.{Block, Meaning, Lawful, Same, block_after, Bytes}
+use Rattle.std.proofs.lemmas.Bool.{cases_lt}
+use Rattle.block.specs.Blocks.{Block, Meaning, Lawful, Same, Bytes}
 use Rattle.modes_spec.specs.Texts.{◌⊕◌, joined_front, big_endian}
 use Rattle.modes_spec.specs.Ctr.{counter_block, counter_stream, ctr}
 use Rattle.modes_spec.proofs.Cbc.{size-pos}
@@ -40,7 +40,7 @@ pub counter-made : (m : Meaning) (n i : ℕ) (start block A B X : List ℕ)
     → A ≡ take (n / 2 - 0) start
     → B ≡ big_endian (length (take (n - n / 2) (drop (n / 2) (A ++ post_of 0 (n / 2 - 0) block)))) i
     → length X ≡ length (take (n - 0) (put_mid (n / 2) (n - n / 2) (A ++ post_of 0 (n / 2 - 0) block) B))
-    → X ≡ block_after m.size m.forward (take (n - 0) (put_mid (n / 2) (n - n / 2) (A ++ post_of 0 (n / 2 - 0) block) B))
+    → X ≡ m.forward (take (n - 0) (put_mid (n / 2) (n - n / 2) (A ++ post_of 0 (n / 2 - 0) block) B))
     → take m.size (X ++ post_of 0 (n - 0) (put_mid (n / 2) (n - n / 2) (A ++ post_of 0 (n / 2 - 0) block) B)) ≡ m.forward (counter_block m.size (take (m.size / 2) start) i)
 counter-made m n i start block A B X es lo hi even ls lb ea eb lx ex =
     let h : ℕ = n / 2 in
@@ -59,7 +59,7 @@ counter-made m n i start block A B X es lo hi even ls lb ea eb lx ex =
     ap (λ (x : ℕ). take x P2) z2 ∙ t ∙ ap₂ (λ (x y : List ℕ). x ++ y) ea2 eb2 in
     let lt : length (take (n - 0) P2) ≡ n = ap length (ap (λ (x : ℕ). take x P2) z2 ∙ t) ∙ simp length-append (omega arith) in
     let ex2 : X ≡ m.forward (counter_block n (take h start) i) =
-    ex ∙ ap (λ (b : Bool). cond b (m.forward (take (n - 0) P2)) (take (n - 0) P2)) (eq-eqb _ m.size (lt ∙ es)) ∙ ap m.forward t2 in
+    ex ∙ ap m.forward t2 in
     take_at X (post_of 0 (n - 0) P2) m.size (lx ∙ lt ∙ es) ∙ ex2 ∙ ap (λ (x : ℕ). m.forward (counter_block x (take (x / 2) start) i)) es
 
 add-sub : (u n : ℕ) → u ≤ n → u + (n - u) ≡ n

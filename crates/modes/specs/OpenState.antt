@@ -1,5 +1,6 @@
 -- What cbc that is opened in pieces holds, by the cipher text that it has taken in so far.
-use Rattle.std.specs.Prelude.{◌≡◌, ℕ, ◌+◌, ◌-◌, ◌*◌, ◌/◌, ◌%◌, ◌≤◌, min, Bool, true, cond, ◌&&◌, List, [], ◌∷◌, ◌++◌, length, take, drop, Ok, Err, Result, ◌==◌, nat_lt, slice_index}
+use Rattle.std.specs.Prelude.{◌≡◌, ℕ, ◌+◌, ◌-◌, ◌*◌, ◌/◌, ◌%◌, ◌≤◌, min, Bool, cond, ◌&&◌, List, [], ◌++◌, length, take, drop, Ok, Err, Result, ◌==◌, nat_lt, slice_index}
+use Rattle.std.specs.List.{list_all}
 use Rattle.block.specs.Blocks.{Block, Meaning, Lawful, Same, Bytes}
 use Rattle.modes_spec.specs.Cbc.{register_at, opened_block, opened_blocks}
 use Rattle.modes_spec.specs.Texts.{zeros}
@@ -60,8 +61,7 @@ TakenCbc cipher s piece out (Ok k) s' out' = OpenedCbc cipher s piece s' (take k
 TakenCbc cipher s piece out (Err f) s' out' = (s' ≡ s) × (out' ≡ out)
 
 abbrev pub all_zeros : List ℕ → Bool
-all_zeros [] = true
-all_zeros (x ∷ xs) = x == 0 && all_zeros xs
+all_zeros = list_all (λ x. x == 0)
 
 -- the last block of n bytes is `rest` bytes of text and their filling
 abbrev pub fills : ℕ → ℕ → List ℕ → Bool

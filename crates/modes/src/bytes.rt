@@ -15,19 +15,16 @@ pub fn join_front(bytes: &mut [u8], more: &[u8])
     requires { length more.now ≤ length bytes.old }
     ensures { bytes.new ≡ joined_front bytes.old more.now }
 {
-    for i in 0..more.len() {
-        bytes[i] ^= more[i];
+    for (i, b) in more.iter().enumerate() {
+        bytes[i] ^= *b;
     }
 }
 
-// Writes a number over a part, its highest byte first.
+// Writes a number over a part of up to 8 bytes, its highest byte first.
 pub fn write_number(number: u64, part: &mut [u8])
+    requires { length part.old ≤ 8 }
     ensures { part.new ≡ big_endian (length part.old) number }
 {
-    let n = part.len();
-    let mut rest = number;
-    for j in 0..n {
-        part[n - 1 - j] = (rest % 256) as u8;
-        rest /= 256;
-    }
+    let bytes = number.to_be_bytes();
+    part.copy_from_slice(&bytes[8 - part.len()..]);
 }

@@ -3,6 +3,7 @@ ghost use Rattle.std.specs.Prelude.{◌≡◌, ℕ, ◌+◌, ◌-◌, ◌≤◌,
 ghost use Rattle.block.specs.Blocks.{Same};
 ghost use Rattle.modes_spec.specs.Texts.{joined_front};
 
+use crate::blocks::encipher;
 use crate::bytes::join_front;
 use block::{BlockCipher, block_length};
 
@@ -37,10 +38,7 @@ impl Chain {
         ensures same { Same (C.BlockCipher.meaning cipher.old) (C.BlockCipher.meaning cipher.new) }
     {
         let n = block_length(cipher);
-        match cipher.encipher(&mut self.register[0..n]) {
-            Ok(()) => {}
-            Err(_) => unreachable(),
-        }
+        encipher(cipher, &mut self.register[0..n]);
         self.filled = 0;
     }
 }

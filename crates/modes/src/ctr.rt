@@ -5,6 +5,7 @@ ghost use Rattle.modes_spec.specs.Texts.{joined_front};
 ghost use Rattle.modes_spec.specs.Ctr.{counter_block};
 ghost use Rattle.modes.specs.CtrState.{BegunCtr, JoinedCtr};
 
+use crate::blocks::encipher;
 use crate::bytes::{are_bytes, join_front, write_number};
 use block::{BlockCipher, block_length};
 
@@ -29,10 +30,7 @@ fn encipher_counter<C: BlockCipher>(cipher: &mut C, start: &[u8], number: u64, b
     let half = n / 2;
     block[0..half].copy_from_slice(&start[0..half]);
     write_number(number, &mut block[half..n]);
-    match cipher.encipher(&mut block[0..n]) {
-        Ok(()) => {}
-        Err(_) => unreachable(),
-    }
+    encipher(cipher, &mut block[0..n]);
 }
 
 impl CtrStream {

@@ -1,6 +1,7 @@
 // The modes ctr and cbc and the MAC over any block cipher. Each takes its input in pieces of any length.
 #![tactic(auto)]
 
+mod blocks;
 mod bytes;
 pub mod cbc;
 mod chain;

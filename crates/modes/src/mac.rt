@@ -5,6 +5,7 @@ ghost use Rattle.modes_spec.specs.Mac.{constant_b, doubled, subkey1, subkey2};
 ghost use Rattle.modes_spec.specs.Texts.{zeros};
 ghost use Rattle.modes.specs.MacState.{AbsorbedMac, BegunMac, FinishedMac};
 
+use crate::blocks::encipher;
 use crate::bytes::{are_bytes, join_front};
 use crate::chain::Chain;
 use block::{BlockCipher, block_length};
@@ -39,10 +40,7 @@ fn write_subkey<C: BlockCipher>(cipher: &mut C, whole: bool, block: &mut [u8])
     ensures same { Same (C.BlockCipher.meaning cipher.old) (C.BlockCipher.meaning cipher.new) }
 {
     block.fill(0);
-    match cipher.encipher(block) {
-        Ok(()) => {}
-        Err(_) => unreachable(),
-    }
+    encipher(cipher, block);
     double(block);
     if !whole {
         double(block);

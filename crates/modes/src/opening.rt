@@ -4,6 +4,7 @@ ghost use Rattle.block.specs.Blocks.{Same};
 ghost use Rattle.modes_spec.specs.Texts.{◌⊕◌, zeros};
 ghost use Rattle.modes.specs.OpenState.{BegunOpening, LastOpened, OpenedCbc, TakenCbc, all_zeros, fills, opened_next, settled_fill, take_answer};
 
+use crate::blocks::decipher;
 use crate::bytes::{are_bytes, join_front};
 use crate::cbc::CbcFault;
 use block::{BlockCipher, block_length};
@@ -11,12 +12,7 @@ use block::{BlockCipher, block_length};
 fn all_zeros(bytes: &[u8]) -> bool
     ensures { result ≡ all_zeros bytes.now }
 {
-    for b in bytes {
-        if *b != 0 {
-            return false;
-        }
-    }
-    true
+    bytes.iter().all(|b| *b == 0)
 }
 
 // Whether a last block is `rest` bytes of text and their filling.
@@ -75,10 +71,7 @@ impl CbcOpener {
     {
         let n = block_length(cipher);
         out.copy_from_slice(&self.block[0..n]);
-        match cipher.decipher(out) {
-            Ok(()) => {}
-            Err(_) => unreachable(),
-        }
+        decipher(cipher, out);
         join_front(out, &self.previous[0..n]);
     }
 

@@ -3,6 +3,8 @@ use Rattle.std.proofs.Common.{◌≡◌, ℕ, zero, suc, ◌+◌, ◌-◌, ◌*�
 use Rattle.std.proofs.lemmas.Nat.{field_of, mod-pow-add, mod_low}
 use Rattle.std.proofs.ByRecursion.{All-append}
 use Rattle.std.proofs.lemmas.List.{append-nil, append_assoc, drop_all, drop-set, same_from_push, length_push}
+use Rattle.std.specs.Int.{byte_at, bytes_high_first}
+use Rattle.std.proofs.Math.Nat.{div-div-eq-div-mul}
 use Rattle.block.specs.Blocks.{Bytes}
 use Rattle.modes_spec.specs.Texts.{big_endian}
 
@@ -28,32 +30,34 @@ same-from-big_endian (suc k) i j hi hj e =
     let q = same-from-big_endian k (i / 256) (j / 256) (div-small i k hi) (div-small j k hj) p.0 in
     omega (arith, p.1, q)
 
--- a loop that writes a number from its lowest byte on: none, one byte more, all
-pub written_none : (i : ℕ) (part : List ℕ) → big_endian (length part) i ≡ big_endian (length part - 0) i ++ drop (length part - 0) part
-written_none i part =
-    let z : length part - 0 ≡ length part = omega arith in
-    rw (z, drop_all (length part) part (omega arith)) (sym (append-nil (big_endian (length part) i)))
+-- the same bytes as std writes them, from the highest on
+byte-up : (k n : ℕ) → byte_at (suc k) n ≡ byte_at k (n / 256)
+byte-up zero n = refl
+byte-up (suc k) n =
+    let p : 256 ^ suc (suc k) ≡ 256 * 256 ^ suc k = omega (arith, pow-suc 256 (suc k)) in
+    ap (λ d. n / d % 256) p ∙ ap (λ q. q % 256) (sym (div-div-eq-div-mul n 256 (256 ^ suc k)))
 
-pub written-more : (i n : ℕ) (part : List ℕ) (j rest : ℕ) → n ≡ length part → j < n → big_endian n i ≡ big_endian (n - j) rest ++ drop (n - j) part
-    → big_endian n i ≡ big_endian (n - (j + 1)) (rest / 256) ++ drop (n - (j + 1)) (set part (n - 1 - j) (rest % 256))
-unfolding big_endian
-written-more i n part j rest l h e =
-    let a : n - j ≡ suc (n - (j + 1)) = omega arith in
-    let b : n - 1 - j ≡ n - (j + 1) = omega arith in
-    let f : n - (j + 1) + 1 ≡ suc (n - (j + 1)) = omega arith in
-    let w : n - (j + 1) < length part = omega arith in
-    let s : drop (n - (j + 1)) (set part (n - (j + 1)) (rest % 256)) ≡ rest % 256 ∷ drop (suc (n - (j + 1))) part =
-    drop-set part (n - (j + 1)) (rest % 256) w ∙ ap (λ (x : ℕ). rest % 256 ∷ drop x part) f in
-    let split : big_endian (suc (n - (j + 1))) rest ≡ big_endian (n - (j + 1)) (rest / 256) ++ (rest % 256 ∷ []) = refl in
-    e
-    ∙ ap (λ (x : ℕ). big_endian x rest ++ drop x part) a
-    ∙ append_assoc (big_endian (n - (j + 1)) (rest / 256)) (rest % 256 ∷ []) (drop (suc (n - (j + 1))) part)
-    ∙ ap (λ (l : List ℕ). big_endian (n - (j + 1)) (rest / 256) ++ l) (sym s)
-    ∙ ap (λ (x : ℕ). big_endian (n - (j + 1)) (rest / 256) ++ drop (n - (j + 1)) (set part x (rest % 256))) (sym b)
+high_first-push : (k n : ℕ) → bytes_high_first (suc k) n ≡ bytes_high_first k (n / 256) ++ (n % 256 ∷ [])
+high_first-push zero n = refl
+high_first-push (suc k) n = ap₂ (λ b l. b ∷ l) (byte-up k n) (high_first-push k n)
 
-pub written_all : (i n : ℕ) (part : List ℕ) (j rest : ℕ) → n ≡ length part → n ≤ j → big_endian n i ≡ big_endian (n - j) rest ++ drop (n - j) part → part ≡ big_endian n i
+high_first-big_endian : (k n : ℕ) → bytes_high_first k n ≡ big_endian k n
 unfolding big_endian
-written_all i n part j rest l h e = let z : n - j ≡ 0 = omega arith in sym (rw z at e)
+high_first-big_endian zero n = refl
+high_first-big_endian (suc k) n = high_first-push k n ∙ ap (λ l. l ++ (n % 256 ∷ [])) (high_first-big_endian k (n / 256))
+
+drop-high_first : (j m n : ℕ) → j ≤ m → drop j (bytes_high_first m n) ≡ bytes_high_first (m - j) n
+drop-high_first zero m n h = let e : m ≡ m - 0 = omega arith in ap (λ k. bytes_high_first k n) e
+drop-high_first (suc j) zero n h = absurd (omega arith)
+drop-high_first (suc j) (suc m) n h =
+    let e : m - j ≡ suc m - suc j = omega arith in
+    drop-high_first j m n (omega arith) ∙ ap (λ k. bytes_high_first k n) e
+
+-- the last k of the 8 bytes of a number
+pub last-bytes : (k n : ℕ) → k ≤ 8 → drop (8 - k) (bytes_high_first 8 n) ≡ big_endian k n
+last-bytes k n h =
+    let e : 8 - (8 - k) ≡ k = omega arith in
+    drop-high_first (8 - k) 8 n (omega arith) ∙ ap (λ x. bytes_high_first x n) e ∙ high_first-big_endian k n
 
 -- k bytes show a number modulo 256^j, for k up to j
 pub big_endian-mod : (k j i : ℕ) → k ≤ j → big_endian k (i % 2 ^ (8 * j)) ≡ big_endian k i

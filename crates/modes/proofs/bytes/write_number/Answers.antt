@@ -1,14 +1,12 @@
-use Rattle.std.proofs.Common.{length, arith}
-use Rattle.modes_spec.proofs.Numbers.{written_none, written-more, written_all}
+use Rattle.std.proofs.Common.{◌-◌, length, ap, ◌∙◌, arith}
+use Rattle.std.specs.Int.{bytes_high_first}
+use Rattle.std.specs.List.{between}
+use Rattle.std.proofs.lemmas.Slice.{between_to_end}
+use Rattle.modes_spec.proofs.Numbers.{last-bytes}
 use Rattle.modes.proofs.bytes.write_number.Goals as goal
-
-pub loop-j-init : goal.loop-j-init
-loop-j-init c = written_none c.args.number c.args.part.now
-
-pub loop-j-preserved : goal.loop-j-preserved
-loop-j-preserved c =
-    written-more c.args.number (length c.args.part.now) c.loop-j.part c.loop-j.j c.loop-j.rest (omega arith) (omega arith) c.loop-j.invariant
 
 pub returns : goal.returns
 returns c =
-    written_all c.args.number (length c.args.part.now) c.loop-j.part c.loop-j.j c.loop-j.rest (omega arith) (omega arith) c.loop-j.invariant
+    let from = 8 - length c.args.part.now in
+    c.copy_from_slice.ensures.after ∙ ap (between from 8) c.to_be_bytes-bytes.ensures
+    ∙ between_to_end (bytes_high_first 8 c.args.number) from 8 (omega arith) ∙ last-bytes (length c.args.part.now) c.args.number c.requires
