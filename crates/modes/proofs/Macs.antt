@@ -4,7 +4,7 @@ use native.Mathlib.Nat.{zero-div}
 use borrow.Rule.Slice.PartMut.{post_of}
 use lib.Bits.{bit_xor}
 use Rattle.std.proofs.ByRecursion.{All-take, All-drop}
-use Rattle.std.proofs.lemmas.List.{append_assoc, length-take, length-drop, length-replicate, take-replicate, take_rest, take_at, drop-append-le, drop-replicate}
+use Rattle.std.proofs.lemmas.List.{append_assoc, length-take, length-drop, length-replicate, take-replicate, take_at, drop-append-le, drop-replicate}
 use Rattle.std.proofs.lemmas.Nat.{mod-mul-add}
 use Rattle.std.proofs.lemmas.Bool.{leb-true, leb-false, eq-eqb, ne_eqb, cases_lt}
 use Rattle.block.proofs.Bytes.{xor-list-comm}
@@ -20,7 +20,7 @@ use Rattle.modes.specs.MacState.{MacAt, AbsorbedMac}
 use Rattle.modes.specs.declared.chain.Chain.{Chain}
 use Rattle.modes.specs.declared.mac.Mac.{Mac}
 use Rattle.modes.proofs.Chaining.{chain-begun, chain-advanced, chain-joined, chain-filled, blocks-before}
-use Rattle.modes.proofs.Streams.{same_then}
+use Rattle.modes.proofs.Streams.{rest-behind, same_then}
 
 pub size-high : (m : Meaning) → Lawful m → m.size ≤ 16
 size-high m l = ⊎_elim (λ (e : m.size ≡ 8). omega arith) (λ (e : m.size ≡ 16). omega arith) l.sized
@@ -53,20 +53,21 @@ pub ready-already : (m : Meaning) (s₀ s : Mac) (xs : List ℕ) → s.chain.fil
 ready-already m s₀ s xs h inv = record { room = h; chain = λ n text sm hold. (blocks_before n.size (text ++ xs), inv n text sm hold) }
 
 -- one turn of the loop over a piece: r bytes behind the first `at` are joined
-pub absorbed-turn : (m : Meaning) (n : ℕ) (s₀ : Mac) (c : Chain) (s' : Mac) (X : List ℕ) (at r : ℕ) → n ≡ m.size → n ≤ 16 → Bytes X
-    → at < length X → r ≡ min (n - c.filled) (length (take (length X - at) (drop at X)))
+pub absorbed-turn : (m : Meaning) (n : ℕ) (s₀ : Mac) (c : Chain) (s' : Mac) (X rest : List ℕ) (at r : ℕ) → n ≡ m.size → n ≤ 16 → Bytes X
+    → rest ≡ drop at X → 0 < length rest → r ≡ min (n - c.filled) (length rest)
     → s'.chain.filled ≡ c.filled + r
-    → s'.chain.register ≡ take c.filled c.register ++ joined_front (drop c.filled c.register) (take r (take (length X - at) (drop at X)))
-    → Ready m s₀ (take at X) c → (at + r ≤ length X) × AbsorbedMac m s₀ (take (at + r) X) s'
-absorbed-turn m n s₀ c s' X at r es small bytes lt er fill reg ready =
-    let all : take (length X - at) (drop at X) ≡ drop at X = take_rest X at in
+    → s'.chain.register ≡ take c.filled c.register ++ joined_front (drop c.filled c.register) (take r rest)
+    → Ready m s₀ (take at X) c → (at + r ≤ length X) × (take (length rest - r) (drop r rest) ≡ drop (at + r) X) × AbsorbedMac m s₀ (take (at + r) X) s'
+absorbed-turn m n s₀ c s' X rest at r es small bytes all some er fill reg ready =
     let r2 : r ≡ min (n - c.filled) (length (drop at X)) = er ∙ ap (λ (x : List ℕ). min (n - c.filled) (length x)) all in
     let ld : length (drop at X) ≡ length X - at = length-drop at X in
+    let lt : length rest ≡ length X - at = ap length all ∙ ld in
     let room : c.filled < m.size = ready.room in
     let run : List ℕ = take r (drop at X) in
     let lrun : length (take r (drop at X)) ≡ r = simp length-take (omega arith) in
     let split : take (at + r) X ≡ take at X ++ take r (drop at X) = take-add at r X in (
       omega arith,
+      rest-behind at r X rest all,
       λ o text sm hold.
           let size : o.size ≡ m.size = sm.sizes in
           let p = ready.chain o text sm hold in

@@ -3,7 +3,7 @@ use Rattle.std.proofs.Common.{◌≡◌, ℕ, zero, suc, ◌+◌, ◌-◌, ◌*�
 use borrow.Rule.Slice.PartMut.{put_mid}
 use Rattle.std.proofs.lemmas.Nat.{le-div, div-add-mod'}
 use Rattle.std.proofs.ByRecursion.{All-append, All-take, All-drop}
-use Rattle.std.proofs.lemmas.List.{append-nil, append_assoc, length-append, length-take, length-drop, take_all, take_at, take_rest, drop_all, drop-append-le}
+use Rattle.std.proofs.lemmas.List.{append-nil, append_assoc, length-append, length-take, length-drop, take_all, take_at, drop_all, drop-append-le}
 use Rattle.std.proofs.lemmas.Slice.{take-put_mid}
 use Rattle.std.proofs.lemmas.Bool.{cases_lt, eq-eqb, ne_eqb, cond_above, and_parts, ltb-true}
 use Rattle.block.proofs.Bytes.{length-xor}
@@ -174,17 +174,16 @@ collected-none m s X = λ o iv text before sm hold. (
   ),
 )
 
-pub collected-turn : (m : Meaning) (n : ℕ) (s₀ s s' : CbcOpener) (X ys : List ℕ) (at r : ℕ) → n ≡ m.size → Bytes X
-    → r ≡ min (n - s.filled) (length (take (length X - at) (drop at X))) → s.filled ≤ n
+pub collected-turn : (m : Meaning) (n : ℕ) (s₀ s s' : CbcOpener) (X rest ys : List ℕ) (at r : ℕ) → n ≡ m.size → Bytes X
+    → rest ≡ drop at X → r ≡ min (n - s.filled) (length rest) → s.filled ≤ n
     → s'.filled ≡ s.filled + r
-    → (take (s.filled + r) s'.block ≡ take s.filled s.block ++ take r (take (length X - at) (drop at X))) × (length s'.block ≡ 16)
+    → (take (s.filled + r) s'.block ≡ take s.filled s.block ++ take r rest) × (length s'.block ≡ 16)
     → (s'.previous ≡ s.previous) × (s'.left ≡ s.left)
     → CollectedCbc m s₀ (take at X) s ys → CollectedCbc m s₀ (take (at + r) X) s' ys
-collected-turn m n s₀ s s' X ys at r es bytes er le fill copied kept inv = λ o iv text before sm hold.
+collected-turn m n s₀ s s' X rest ys at r es bytes all er le fill copied kept inv = λ o iv text before sm hold.
     let was = inv o iv text before sm hold in
     let q : ℕ = was.0 in
     let size : o.size ≡ m.size = sm.sizes in
-    let all : take (length X - at) (drop at X) ≡ drop at X = take_rest X at in
     let r2 : r ≡ min (n - s.filled) (length (drop at X)) = er ∙ ap (λ (x : List ℕ). min (n - s.filled) (length x)) all in
     let run : List ℕ = take r (drop at X) in
     let lrun : length (take r (drop at X)) ≡ r = simp length-take (omega arith) in

@@ -5,7 +5,7 @@ use borrow.Rule.Slice.PartMut.{put_mid, post_of}
 use lib.Bits.{bit_xor}
 use Rattle.std.proofs.lemmas.Nat.{div-mul-add, div-add-mod', le-div}
 use Rattle.std.proofs.ByRecursion.{All-take, All-drop}
-use Rattle.std.proofs.lemmas.List.{append_assoc, length-take, take_rest, take_at, drop_at, drop_all, drop-drop}
+use Rattle.std.proofs.lemmas.List.{append_assoc, length-take, take_at, drop_at, drop_all, drop-drop}
 use Rattle.std.proofs.lemmas.Slice.{take-put_mid, drop-put_mid}
 use Rattle.block.specs.Blocks.{Meaning, Lawful, Same, Bytes}
 use Rattle.modes_spec.specs.Cbc.{chained, cbc_blocks, cbc_sealed}
@@ -39,15 +39,14 @@ JoinedCbc cipher s₀ xs c ys =
     → (q : ℕ) × (ChainAt m iv (text ++ xs) q c × (cbc_blocks m iv (text ++ xs) q ≡ sealed_so_far m iv text ++ ys))
 
 -- bytes within the current block are joined
-pub sealing-joined : (m : Meaning) (n : ℕ) (s₀ s : CbcSealer) (c : Chain) (X ys : List ℕ) (at r : ℕ) → n ≡ m.size → n ≤ 16 → Bytes X
-    → r ≡ min (n - s.chain.filled) (length (take (length X - at) (drop at X))) → s.chain.filled < n
+pub sealing-joined : (m : Meaning) (n : ℕ) (s₀ s : CbcSealer) (c : Chain) (X rest ys : List ℕ) (at r : ℕ) → n ≡ m.size → n ≤ 16 → Bytes X
+    → rest ≡ drop at X → r ≡ min (n - s.chain.filled) (length rest) → s.chain.filled < n
     → c.filled ≡ s.chain.filled + r
-    → c.register ≡ take s.chain.filled s.chain.register ++ joined_front (drop s.chain.filled s.chain.register) (take r (take (length X - at) (drop at X)))
+    → c.register ≡ take s.chain.filled s.chain.register ++ joined_front (drop s.chain.filled s.chain.register) (take r rest)
     → SealedCbc m s₀ (take at X) s ys → JoinedCbc m s₀ (take (at + r) X) c ys
-sealing-joined m n s₀ s c X ys at r es small bytes er lt fill reg inv = λ o iv text sm hold.
+sealing-joined m n s₀ s c X rest ys at r es small bytes all er lt fill reg inv = λ o iv text sm hold.
     let was = inv o iv text sm hold in
     let size : o.size ≡ m.size = sm.sizes in
-    let all : take (length X - at) (drop at X) ≡ drop at X = take_rest X at in
     let r2 : r ≡ min (n - s.chain.filled) (length (drop at X)) = er ∙ ap (λ (x : List ℕ). min (n - s.chain.filled) (length x)) all in
     let run : List ℕ = take r (drop at X) in
     let lrun : length (take r (drop at X)) ≡ r = simp length-take (omega arith) in

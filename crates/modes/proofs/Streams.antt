@@ -199,10 +199,14 @@ turned m n s₀ s s' X B W at r es h lx rest er lt small ew kept inv =
     )
 
 -- how far a turn goes
-pub run-within : (n f at r : ℕ) (X : List ℕ) → r ≡ min (n - f) (length (take (length X - at) (drop at X))) → at ≤ length X → (at + r ≤ length X) × (r ≤ n - f)
-run-within n f at r X e h =
-    let l : length (take (length X - at) (drop at X)) ≡ length X - at = ap length (take_rest X at) ∙ length-drop at X in
+pub run-within : (n f at r : ℕ) (X rest : List ℕ) → rest ≡ drop at X → r ≡ min (n - f) (length rest) → at ≤ length X → (at + r ≤ length X) × (r ≤ n - f)
+run-within n f at r X rest all e h =
+    let l : length rest ≡ length X - at = ap length all ∙ length-drop at X in
     (omega arith, omega arith)
+
+-- what stands behind a run that is taken off
+pub rest-behind : (at r : ℕ) (X rest : List ℕ) → rest ≡ drop at X → take (length rest - r) (drop r rest) ≡ drop (at + r) X
+rest-behind at r X rest all = take_rest rest r ∙ ap (drop r) all ∙ drop-drop r at X
 
 pub same_self : (m : Meaning) → Same m m
 same_self m = record { sizes = refl; forwards = λ b h. refl; inverses = λ b h. refl }

@@ -51,10 +51,11 @@ impl CbcSealer {
     {
         are_bytes(piece);
         let n = block_length(cipher);
-        let mut at = 0;
+        let mut rest = piece;
         let mut written = 0;
-        while at < piece.len() {
-            at += self.chain.join(n, &piece[at..]);
+        while !rest.is_empty() {
+            let run = self.chain.join(n, rest);
+            rest = &rest[run..];
             if self.chain.filled >= n {
                 self.chain.advance(cipher);
                 out[written..written + n].copy_from_slice(&self.chain.register[0..n]);

@@ -84,12 +84,13 @@ impl Mac {
     {
         are_bytes(piece);
         let n = block_length(cipher);
-        let mut at = 0;
-        while at < piece.len() {
+        let mut rest = piece;
+        while !rest.is_empty() {
             if self.chain.filled >= n {
                 self.chain.advance(cipher);
             }
-            at += self.chain.join(n, &piece[at..]);
+            let run = self.chain.join(n, rest);
+            rest = &rest[run..];
         }
     }
 

@@ -99,17 +99,18 @@ impl CbcOpener {
     {
         are_bytes(piece);
         let n = block_length(cipher);
-        let mut at = 0;
+        let mut rest = piece;
         let mut written = 0;
-        while at < piece.len() && self.left > 0 {
-            at += self.collect(n, &piece[at..]);
+        while !rest.is_empty() && self.left > 0 {
+            let run = self.collect(n, rest);
+            rest = &rest[run..];
             if self.filled >= n {
                 self.open_block(cipher, &mut out[written..written + n]);
                 self.next_block();
                 written += n;
             }
         }
-        let _ = self.collect(n, &piece[at..]);
+        let _ = self.collect(n, rest);
         written
     }
 

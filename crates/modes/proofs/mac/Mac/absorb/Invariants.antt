@@ -1,12 +1,14 @@
-use Rattle.std.proofs.Common.{◌-◌, ◌≤◌, length, take}
+use Rattle.std.proofs.Common.{◌≡◌, ℕ, ◌≤◌, length, take, drop}
 use Rattle.block.specs.Blocks.{Same}
 use Rattle.modes.specs.MacState.{AbsorbedMac}
 use Rattle.modes.proofs.mac.Mac.absorb.Given as goal
 
-abbrev pub invariant-loop-at : goal.invariant-loop-at
-invariant-loop-at g l =
+-- the piece is taken in up to some place, and `rest` is what stands behind it
+abbrev pub invariant-loop-rest : goal.invariant-loop-rest
+invariant-loop-rest g l =
     let m = g.C.BlockCipher.meaning l.initial.cipher in
-    Same m (g.C.BlockCipher.meaning l.cipher) × (l.at ≤ length l.piece) × AbsorbedMac m l.initial.self (take l.at l.piece) l.self
+    Same m (g.C.BlockCipher.meaning l.cipher)
+    × ((at : ℕ) × (at ≤ length l.piece) × (l.rest ≡ drop at l.piece) × AbsorbedMac m l.initial.self (take at l.piece) l.self)
 
-abbrev pub decreases-loop-at : goal.decreases-loop-at
-decreases-loop-at g l = length l.piece - l.at
+abbrev pub decreases-loop-rest : goal.decreases-loop-rest
+decreases-loop-rest g l = length l.rest
