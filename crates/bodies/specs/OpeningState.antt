@@ -79,13 +79,17 @@ abbrev pub rest_length : OpeningMode → ℕ → ℕ
 rest_length (held.Ctr s) rest = 0
 rest_length (held.Cbc s) rest = rest
 
+-- a refusal of cbc's last block, as one of a body's end
+abbrev pub end_fault_of : CbcFault → ProveFault
+end_fault_of why.ShortOutput = Incomplete
+end_fault_of why.TooLong = Incomplete
+end_fault_of why.Incomplete = Incomplete
+end_fault_of why.Filling = Filling
+
 -- the text of a last block, of which `rest` bytes are text
 abbrev pub text_of : ℕ → Result (List ℕ) CbcFault → Result (List ℕ) ProveFault
 text_of rest (Ok block) = Ok (take rest block)
-text_of rest (Err why.ShortOutput) = Err Incomplete
-text_of rest (Err why.TooLong) = Err Incomplete
-text_of rest (Err why.Incomplete) = Err Incomplete
-text_of rest (Err why.Filling) = Err Filling
+text_of rest (Err f) = Err (end_fault_of f)
 
 -- what the last block of the sealed bytes gives, once they are all there
 abbrev pub last_text : Mode → Meaning → List ℕ → ℕ → ℕ → List ℕ → Result (List ℕ) ProveFault

@@ -1,8 +1,8 @@
 // One body, opened: its sealed bytes taken into the tag's text, and deciphered in its mode.
 ghost use Rattle.std.specs.Prelude.{◌≡◌, ℕ, ◌+◌, ◌≤◌, List, [], ◌++◌, length};
-ghost use Rattle.std.specs.Str.{bytes_eq};
 ghost use Rattle.block.specs.Blocks.{Same};
-ghost use Rattle.bodies.specs.OpeningState.{BegunOpening, EndedMode, TakenBody, TakenMode, rest_length, take_answer};
+ghost use Rattle.bodies.specs.declared.opening.TakeFault.TheVariants as take;
+ghost use Rattle.bodies.specs.OpeningState.{BegunOpening, EndedMode, TakenBody, TakenMode, end_fault_of, fault_of, rest_length, take_answer};
 
 use crate::sealing::{ShortOutput, feed_ctr};
 use block::BlockCipher;
@@ -34,10 +34,37 @@ pub enum ProveFault {
     Incomplete,
 }
 
-fn is_same(a: &[u8], b: &[u8]) -> bool
-    ensures { result ≡ bytes_eq a.now b.now }
-{
-    a == b
+// A refusal of ctr, as one of a body.
+impl From<ShortOutput> for TakeFault {
+    ghost from_gives = { λ _ r. r ≡ take.ShortOutput };
+
+    fn from(_fault: ShortOutput) -> TakeFault {
+        TakeFault::ShortOutput
+    }
+}
+
+// A refusal of cbc, as one of a body: the last block is not looked at yet.
+impl From<CbcFault> for TakeFault {
+    ghost from_gives = { λ f r. r ≡ fault_of f };
+
+    fn from(fault: CbcFault) -> TakeFault {
+        match fault {
+            CbcFault::TooLong => TakeFault::TooLong,
+            _ => TakeFault::ShortOutput,
+        }
+    }
+}
+
+// A refusal of cbc's last block, as one of a body's end.
+impl From<CbcFault> for ProveFault {
+    ghost from_gives = { λ f r. r ≡ end_fault_of f };
+
+    fn from(fault: CbcFault) -> ProveFault {
+        match fault {
+            CbcFault::Filling => ProveFault::Filling,
+            _ => ProveFault::Incomplete,
+        }
+    }
 }
 
 // The mode of a body, with its state so far.
@@ -60,20 +87,11 @@ impl OpeningMode {
         ensures same { Same (C.BlockCipher.meaning cipher.old) (C.BlockCipher.meaning cipher.new) }
     {
         match self {
-            OpeningMode::Ctr(stream) => match feed_ctr(stream, cipher, piece, out) {
-                Ok(written) => Ok(written),
-                Err(ShortOutput) => Err(TakeFault::ShortOutput),
-            },
-            OpeningMode::Cbc(opener) => match opener.take(cipher, piece, out) {
-                Ok(written) => Ok(written),
-                Err(CbcFault::TooLong) => Err(TakeFault::TooLong),
-                Err(_) => Err(TakeFault::ShortOutput),
-            },
+            OpeningMode::Ctr(stream) => Ok(feed_ctr(stream, cipher, piece, out)?),
+            OpeningMode::Cbc(opener) => Ok(opener.take(cipher, piece, out)?),
         }
     }
-}
 
-impl OpeningMode {
     // How many bytes of text the last block holds back.
     fn rest_length(&self, rest: usize) -> usize
         ensures { result ≡ rest_length self.now rest }
@@ -97,14 +115,11 @@ impl OpeningMode {
     {
         match self {
             OpeningMode::Ctr(_) => Ok(0),
-            OpeningMode::Cbc(opener) => match opener.finish(cipher, rest) {
-                Ok(last) => {
-                    out[0..rest].copy_from_slice(&last[0..rest]);
-                    Ok(rest)
-                }
-                Err(CbcFault::Filling) => Err(ProveFault::Filling),
-                Err(_) => Err(ProveFault::Incomplete),
-            },
+            OpeningMode::Cbc(opener) => {
+                let last = opener.finish(cipher, rest)?;
+                out[0..rest].copy_from_slice(&last[0..rest]);
+                Ok(rest)
+            }
         }
     }
 }

@@ -55,15 +55,10 @@ impl SealingMode {
     {
         match self {
             SealingMode::Ctr(stream) => feed_ctr(stream, cipher, piece, out),
-            SealingMode::Cbc(sealer) => match sealer.feed(cipher, piece, out) {
-                Ok(written) => Ok(written),
-                Err(_) => Err(ShortOutput),
-            },
+            SealingMode::Cbc(sealer) => sealer.feed(cipher, piece, out).map_err(|_| ShortOutput),
         }
     }
-}
 
-impl SealingMode {
     // How many bytes are left to seal at the end.
     fn last_length<C: BlockCipher>(&self, cipher: &C) -> usize
         ensures value { result ≡ last_length (C.BlockCipher.meaning cipher.now).size self.now }

@@ -79,6 +79,7 @@ impl CtrStream {
         ensures same { Same (C.BlockCipher.meaning cipher.old) (C.BlockCipher.meaning cipher.new) }
     {
         let n = block_length(cipher);
+        // by place: of a rest that moves on, a proof does not see what was written in front of it
         let mut at = 0;
         while at < bytes.len() {
             if self.used >= n {

@@ -24,6 +24,7 @@ fn double(block: &mut [u8])
 {
     let n = block.len();
     let high = block[0] >= 128;
+    // by index: a byte takes a bit of the next one, and a proof does not see what `iter_mut().rev()` writes
     for i in 0..n - 1 {
         block[i] = (block[i] % 128) * 2 + block[i + 1] / 128;
     }
