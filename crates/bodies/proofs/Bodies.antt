@@ -1,8 +1,7 @@
 -- How a body is sealed piece by piece.
-use Rattle.std.proofs.Common.{◌≡◌, ℕ, suc, ◌+◌, ◌-◌, ◌/◌, ◌<◌, ◌≤◌, List, [], ◌++◌, length, take, drop, Ok, Err, Result, sym, ap, ◌∙◌, subst, ap₂, arith}
+use Rattle.std.proofs.Common.{◌≡◌, ℕ, suc, ◌+◌, ◌-◌, ◌/◌, ◌<◌, ◌≤◌, List, [], ◌++◌, length, take, Ok, Err, Result, sym, ap, ◌∙◌, subst, ap₂, arith}
 use native.Mathlib.Nat.{zero-div, div-eq_of_lt}
-use borrow.Rule.Slice.PartMut.{post_of}
-use Rattle.std.proofs.lemmas.List.{append-nil, append_assoc, take_at, drop_at}
+use Rattle.std.proofs.lemmas.List.{append-nil, append_assoc, take_at}
 use Rattle.std.proofs.lemmas.Bool.{cond_above}
 use Rattle.block.specs.Blocks.{Meaning, Lawful, Same}
 use Rattle.modes_spec.specs.Cbc.{chained}
@@ -39,19 +38,6 @@ pub front-absorbed : (t tag : Meaning) (mode : Mode) (c : Meaning) (start front 
     → BegunMac m₀ → AbsorbedMac tag m₀ front m₁ → MacAt t (front ++ sealed_front mode c start []) m₁
 front-absorbed t tag mode c start front m₀ m₁ lc lt same begun took =
     subst (λ (x : List ℕ). MacAt t x m₁) (sym (ap (λ (x : List ℕ). front ++ x) (nothing-sealed mode c start lc) ∙ append-nil front)) (took t [] same (begun t lt))
-
--- what stands at the front of an output after it was written twice
-pub front_of : (len : ℕ) (out C Y : List ℕ) → length C ≡ len → length Y ≡ len
-    → (take len (Y ++ post_of 0 (len - 0) (C ++ post_of 0 (len - 0) out)) ≡ Y) × (drop len (Y ++ post_of 0 (len - 0) (C ++ post_of 0 (len - 0) out)) ≡ drop len out)
-front_of len out C Y lc ly =
-    let z : len - 0 ≡ len = omega arith in (
-      take_at Y (post_of 0 (len - 0) (C ++ post_of 0 (len - 0) out)) len ly,
-      drop_at Y (post_of 0 (len - 0) (C ++ post_of 0 (len - 0) out)) len ly
-          ∙ ap (λ (k : ℕ). drop k (C ++ drop k out)) z ∙ drop_at C (drop len out) len lc,
-    )
-
-pub first_of : (len : ℕ) (out C : List ℕ) → length C ≡ len → take (len - 0) (C ++ post_of 0 (len - 0) out) ≡ C
-first_of len out C lc = let z : len - 0 ≡ len = omega arith in ap (λ (k : ℕ). take k (C ++ post_of 0 (len - 0) out)) z ∙ take_at C (post_of 0 (len - 0) out) len lc
 
 pub room-ok : (need room k : ℕ) → k ≡ need → need ≤ room → ◌≡◌ {A = Result ℕ ShortOutput} (Ok k) (room_answer need room)
 room-ok need room k e h =

@@ -1,24 +1,13 @@
 -- How a body is opened piece by piece.
-use Rattle.std.proofs.Common.{◌≡◌, ℕ, List, [], ◌++◌, sym, subst}
+use Rattle.std.proofs.Common.{ℕ, List, [], ◌++◌, sym, subst}
 use Rattle.std.proofs.lemmas.List.{append-nil, append_assoc}
 use Rattle.block.specs.Blocks.{Meaning, Lawful, Same}
-use Rattle.modes.specs.OpenState as cbc
 use Rattle.modes.specs.MacState.{MacAt, AbsorbedMac, BegunMac}
 use Rattle.modes.specs.declared.mac.Mac.{Mac}
-use Rattle.modes.specs.declared.opening.CbcOpener.{CbcOpener}
 use Rattle.sheet_format.specs.declared.Mode.{Mode}
-use Rattle.sheet_format.specs.declared.Mode.TheVariants.{Ctr, Cbc}
-use Rattle.bodies.specs.OpeningState.{ModeOpenAt, OpeningAt, opened_front}
+use Rattle.bodies.specs.OpeningState.{ModeOpenAt, OpeningAt}
 use Rattle.bodies.specs.declared.opening.BodyOpener.{BodyOpener}
 use Rattle.bodies.specs.declared.opening.OpeningMode.{OpeningMode}
-use Rattle.bodies.specs.declared.opening.OpeningMode.TheVariants as held
-
--- cbc opens what it takes
-pub cbc-taken : (cipher : Meaning) (s s' : CbcOpener) (piece ys : List ℕ) → cbc.OpenedCbc cipher s piece s' ys
-    → (c : Meaning) (mode : Mode) (start : List ℕ) (before : ℕ) (sealed : List ℕ) → Same c cipher → ModeOpenAt mode c start before sealed (held.Cbc s)
-    → ModeOpenAt mode c start before (sealed ++ piece) (held.Cbc s') × (opened_front mode c start before (sealed ++ piece) ≡ opened_front mode c start before sealed ++ ys)
-cbc-taken cipher s s' piece ys went c Ctr start before sealed same hold = absurd hold
-cbc-taken cipher s s' piece ys went c Cbc start before sealed same hold = went c start sealed before same hold
 
 pub front-absorbed : (t tag : Meaning) (front : List ℕ) (m₀ m₁ : Mac) → Lawful t → Same t tag → BegunMac m₀ → AbsorbedMac tag m₀ front m₁ → MacAt t (front ++ []) m₁
 front-absorbed t tag front m₀ m₁ lt same begun took = subst (λ (x : List ℕ). MacAt t x m₁) (sym (append-nil front)) (took t [] same (begun t lt))
