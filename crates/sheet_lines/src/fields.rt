@@ -2,7 +2,7 @@
 ghost use Rattle.std.specs.Prelude.{◌≡◌, ℕ, ◌≤◌, length};
 ghost use Rattle.std.specs.Str.{bytes_eq};
 ghost use Rattle.sheet_format.specs.Digits.{decimal_from, decimal_of};
-ghost use Rattle.sheet_format.specs.Lines.{all_graphic, cipher_of, cut_of, is_name, is_start, mode_of};
+ghost use Rattle.sheet_format.specs.Lines.{cipher_of, cut_of, is_start, mode_of};
 ghost use Rattle.sheet_lines.specs.Models.{pair_model};
 
 use sheet_format::{CipherKind, Decimal, Mode};
@@ -55,24 +55,6 @@ pub fn is_start(text: &[u8]) -> bool
     ensures { result ≡ is_start text.now }
 {
     !text.is_empty() && hex_digits::all_hex_digits(text)
-}
-
-fn all_graphic(text: &[u8]) -> bool
-    ensures { result ≡ all_graphic text.now }
-{
-    for b in text {
-        if !matches!(*b, 33..=126) {
-            return false;
-        }
-    }
-    true
-}
-
-// 1 to 32 bytes from 33 to 126.
-pub fn is_name(text: &[u8]) -> bool
-    ensures { result ≡ is_name text.now }
-{
-    !text.is_empty() && text.len() <= 32 && all_graphic(text)
 }
 
 // The number that digits mean, `None` where a byte is no digit.
