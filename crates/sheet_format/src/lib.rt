@@ -1,13 +1,15 @@
 // What an order sheet speaks of: ciphers, modes, lengths, names, and the faults for which a sheet is refused.
 #![tactic(auto)]
 
-ghost use Rattle.std.specs.Prelude.{◌≡◌, ℕ, ◌*◌, ◌^◌, ◌<◌};
+ghost use Rattle.std.specs.Prelude.{◌≡◌, ℕ, ◌*◌, ◌^◌, ◌<◌, Some};
 ghost use Rattle.std.specs.Option.{ok_or};
 ghost use Rattle.sheet_format.specs.Sizes.{block_length, blocks_of, cipher_with, sealed_length, start_digits};
 ghost use Rattle.sheet_format.specs.Faults.{code_of};
 ghost use Rattle.sheet_format.specs.Lines.{all_graphic, is_name};
+ghost use Rattle.sheet_format.specs.Words.{cipher_word, mode_word};
 
 use fault::FaultCode;
+use std::fmt;
 
 // How many bytes a sheet may have.
 pub const MAX_SHEET: usize = 4_096;
@@ -65,11 +67,35 @@ impl TryFrom<usize> for CipherKind {
     }
 }
 
+// The word of a cipher line.
+impl fmt::Display for CipherKind {
+    ghost output = { λ c. Some (cipher_word c) };
+
+    fn fmt<W: fmt::Write>(&self, f: &mut fmt::Formatter<W>) -> fmt::Result {
+        f.write_str(match self {
+            CipherKind::Kuznyechik => "kuz",
+            CipherKind::Magma => "magma",
+        })
+    }
+}
+
 // The mode of operation of one body.
 #[derive(Clone, Copy, PartialEq, Eq, Debug)]
 pub enum Mode {
     Ctr,
     Cbc,
+}
+
+// The word of a body line.
+impl fmt::Display for Mode {
+    ghost output = { λ m. Some (mode_word m) };
+
+    fn fmt<W: fmt::Write>(&self, f: &mut fmt::Formatter<W>) -> fmt::Result {
+        f.write_str(match self {
+            Mode::Ctr => "ctr",
+            Mode::Cbc => "cbc",
+        })
+    }
 }
 
 impl Mode {
