@@ -51,9 +51,8 @@ fn check_lines(sheet: &[u8], area: &mut [u8]) -> Result<Checked, SheetFault>
     ensures rest { drop 1792 area.new ≡ drop 1792 area.old }
 {
     let mut progress = Progress::new();
-    let mut lines = Lines::new(sheet);
     let mut last = 0;
-    while let Some(item) = lines.next_line() {
+    for item in Lines::new(sheet) {
         let line = item?;
         last = line.number;
         progress.take_line(line, area)?;
