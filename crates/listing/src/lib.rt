@@ -10,7 +10,7 @@ ghost use Rattle.sheet_lines.specs.Models.{body_model};
 ghost use Rattle.listing.specs.Listing.{bodies_text, body_text, cipher_text, listing_of, refusal_text, total_text};
 
 use sheet::check;
-use sheet_format::{Checked, CipherKind, Mode, SheetFault};
+use sheet_format::{Checked, CipherKind, Mode, SheetFault, WORK_LENGTH};
 use sheet_lines::line::{BodyLine, LineKind};
 use sheet_lines::reader::Lines;
 use std::alloc::{AllocError, Global};
@@ -162,17 +162,6 @@ fn put_refusal(heap: Global, out: &mut Vec<u8>, fault: SheetFault) -> Result<(),
     Ok(())
 }
 
-// The cipher whose block length is n.
-fn cipher_of(n: usize) -> CipherKind
-    ensures { (c : CipherKind) → n ≡ block_length c → result ≡ c }
-{
-    if n == 16 {
-        CipherKind::Kuznyechik
-    } else {
-        CipherKind::Magma
-    }
-}
-
 // Appends the listing of an accepted sheet, which `lines` still has to read.
 fn put_order(
     heap: Global,
@@ -183,7 +172,7 @@ fn put_order(
     requires { map_ok summary (order_of lines.old.rest.now) ≡ Ok checked }
     ensures { OnOk result (out.new.items ≡ out.old.items ++ listing_of lines.old.rest.now) }
 {
-    let cipher = cipher_of(checked.block_length);
+    let cipher = CipherKind::try_from(checked.block_length).unwrap();
     put_cipher(heap, out, cipher)?;
     put_bodies(heap, out, cipher, lines)?;
     put_total(heap, out, checked)?;
@@ -224,7 +213,7 @@ pub fn list_sheet(heap: Global, sheet: &[u8]) -> Result<Listing, AllocError>
     ensures text { IfOk result (λ l. l.text.items ≡ listing_of sheet.now) }
     ensures accepted { IfOk result (λ l. l.accepted ≡ is_ok (order_of sheet.now)) }
 {
-    let mut work = [0u8; 1792];
+    let mut work = [0u8; WORK_LENGTH];
     let answer = check(sheet, &mut work);
     let mut lines = Lines::new(sheet);
     listing_of(heap, &mut lines, answer)

@@ -5,20 +5,11 @@ use Rattle.sheet_format.specs.Lines as format
 use Rattle.sheet_format.specs.Lines.{Form, blank, comment, cipher, body, is_start, is_name, all_graphic}
 use Rattle.sheet_format.specs.Orders.{Order, line_fault, order_from, unless}
 use Rattle.sheet_format.specs.declared.SheetFault.{SheetFault}
-use Rattle.sheet_format.specs.declared.SheetFault.TheVariants.{NoForm}
 use Rattle.sheet_laws.specs.Grammar.{HasForm}
 use Rattle.sheet_laws.proofs.Clash.{clash}
 use Rattle.sheet_lines.specs.Models.{form_model, next_of, step_of, tail_of, TakenLine}
 use Rattle.sheet.specs.Progress.{Fits, refused_by}
 use Rattle.sheet_lines.specs.declared.line.Line.{Line}
-
--- a line with no form
-pub next-err : (earlier ls : List format.Line) (k : ℕ) (f : SheetFault) → k ≡ length earlier → Some (Err f) ≡ next_of k ls
-    → order_from earlier ls ≡ Err f
-next-err earlier [] k f n e = clash (cc)
-next-err earlier (None ∷ ls) k f n e =
-    let q : NoForm (k + 1) ≡ f = cc in ap Err (ap (λ (i : ℕ). NoForm (i + 1)) (sym n) ∙ q)
-next-err earlier (Some g ∷ ls) k f n e = clash (cc)
 
 -- a line that has a form
 pub next-ok : (earlier ls : List format.Line) (k m : ℕ) (g : Form) → k ≡ length earlier → Some (Ok (m, g)) ≡ next_of k ls
@@ -36,11 +27,6 @@ next-ok earlier (Some h ∷ ls) k m g n e =
       refl,
       a,
     )
-
-pub next-end : (ls : List format.Line) (k : ℕ) → None ≡ next_of k ls → ls ≡ []
-next-end [] k e = refl
-next-end (None ∷ ls) k e = clash (cc)
-next-end (Some g ∷ ls) k e = clash (cc)
 
 -- a line that was not refused, and one that was
 pub refused-ok : (o : Option SheetFault) (x : Unit {0}) → Ok x ≡ refused_by o → o ≡ None

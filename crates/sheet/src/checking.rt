@@ -6,13 +6,8 @@ ghost use Rattle.sheet_laws.specs.CheckLaw.{CheckLaw};
 ghost use Rattle.sheet.specs.Checking.{after_check, allowed_or_fault, cleared_front};
 
 use super::progress::Progress;
-use sheet_format::{Checked, SheetFault};
+use sheet_format::{Checked, MAX_SHEET, SheetFault, WORK_LENGTH};
 use sheet_lines::reader::Lines;
-
-const MAX_SHEET: usize = 4_096;
-
-// How many bytes of the work area `check` uses: 56 for each of 32 bodies.
-const WORK_LENGTH: usize = 1_792;
 
 // Clears the front of the work area when it ends.
 struct ClearFront<'a>(&'a mut [u8]);
@@ -56,9 +51,8 @@ fn check_lines(sheet: &[u8], area: &mut [u8]) -> Result<Checked, SheetFault>
     ensures rest { drop 1792 area.new ≡ drop 1792 area.old }
 {
     let mut progress = Progress::new();
-    let mut lines = Lines::new(sheet);
     let mut last = 0;
-    while let Some(item) = lines.next_line() {
+    for item in Lines::new(sheet) {
         let line = item?;
         last = line.number;
         progress.take_line(line, area)?;

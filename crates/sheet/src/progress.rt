@@ -7,14 +7,8 @@ ghost use Rattle.sheet_lines.specs.Models.{body_model, form_model};
 ghost use Rattle.sheet.specs.Progress.{Advanced, Fits, Reached, Stands, admitted};
 
 use super::kept::{keep, name_taken, start_taken};
-use sheet_format::{Checked, CipherKind, Mode, SheetFault};
+use sheet_format::{Checked, CipherKind, MAX_BLOCKS, MAX_BODIES, MAX_LENGTH, Mode, SheetFault};
 use sheet_lines::line::{BodyLine, Line, LineKind};
-
-const MAX_BODIES: usize = 32;
-
-const MAX_LENGTH: u32 = 1_048_576;
-
-const MAX_BLOCKS: u64 = 1_000_000;
 
 // What the lines so far have said: the cipher, and how many bodies and blocks.
 #[derive(Drop)]

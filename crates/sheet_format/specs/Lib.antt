@@ -1,4 +1,5 @@
 pub mod Sizes
+pub mod Words
 pub mod Faults
 pub mod Digits
 pub mod Lines

@@ -1,5 +1,6 @@
 -- The lines of an order sheet, and what each of them says.
-use Rattle.std.specs.Prelude.{ℕ, Bool, true, false, cond, ◌&&◌, List, [], ◌∷◌, map, length, Some, None, codes, Option, ◌==◌, nat_le}
+use Rattle.std.specs.Prelude.{ℕ, Bool, false, cond, ◌&&◌, List, [], ◌∷◌, map, length, Some, None, codes, Option, ◌==◌, nat_le}
+use Rattle.std.specs.List.{list_all}
 use Rattle.std.specs.Option.{option_map}
 use Rattle.std.specs.Str.{bytes_eq}
 use Rattle.hex_digits.specs.Hex.{all_hex_digits}
@@ -69,8 +70,7 @@ abbrev pub is_graphic : ℕ → Bool
 is_graphic x = nat_le 33 x && nat_le x 126
 
 abbrev pub all_graphic : List ℕ → Bool
-all_graphic [] = true
-all_graphic (x ∷ xs) = is_graphic x && all_graphic xs
+all_graphic = list_all is_graphic
 
 abbrev pub is_name : List ℕ → Bool
 is_name [] = false

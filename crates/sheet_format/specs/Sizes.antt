@@ -1,5 +1,5 @@
 -- The sizes that cipher, mode and length give: block length, START digits, blocks, sealed length.
-use Rattle.std.specs.Prelude.{ℕ, ◌+◌, ◌-◌, ◌*◌, ◌/◌}
+use Rattle.std.specs.Prelude.{ℕ, ◌+◌, ◌-◌, ◌*◌, ◌/◌, cond, Some, None, Option, ◌==◌}
 use Rattle.sheet_format.specs.declared.CipherKind.{CipherKind}
 use Rattle.sheet_format.specs.declared.CipherKind.TheVariants.{Kuznyechik, Magma}
 use Rattle.sheet_format.specs.declared.Mode.{Mode}
@@ -9,6 +9,10 @@ use Rattle.sheet_format.specs.declared.Mode.TheVariants.{Ctr, Cbc}
 abbrev pub block_length : CipherKind → ℕ
 block_length Kuznyechik = 16
 block_length Magma = 8
+
+-- the cipher that has a block length
+abbrev pub cipher_with : ℕ → Option CipherKind
+cipher_with n = cond (n == 8) (Some Magma) (cond (n == 16) (Some Kuznyechik) None)
 
 -- START is n/2 bytes in ctr and n bytes in cbc, two digits a byte
 abbrev pub start_digits : Mode → ℕ → ℕ

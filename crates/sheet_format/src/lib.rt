@@ -1,11 +1,33 @@
-// What an order sheet speaks of: ciphers, modes, lengths, and the faults for which a sheet is refused.
+// What an order sheet speaks of: ciphers, modes, lengths, names, and the faults for which a sheet is refused.
 #![tactic(auto)]
 
-ghost use Rattle.std.specs.Prelude.{◌≡◌, ℕ, ◌*◌, ◌^◌, ◌<◌};
-ghost use Rattle.sheet_format.specs.Sizes.{block_length, start_digits, blocks_of, sealed_length};
+ghost use Rattle.std.specs.Prelude.{◌≡◌, ℕ, ◌*◌, ◌^◌, ◌<◌, Some};
+ghost use Rattle.std.specs.Option.{ok_or};
+ghost use Rattle.sheet_format.specs.Sizes.{block_length, blocks_of, cipher_with, sealed_length, start_digits};
 ghost use Rattle.sheet_format.specs.Faults.{code_of};
+ghost use Rattle.sheet_format.specs.Lines.{all_graphic, is_name};
+ghost use Rattle.sheet_format.specs.Words.{cipher_word, mode_word};
 
 use fault::FaultCode;
+use std::fmt;
+
+// How many bytes a sheet may have.
+pub const MAX_SHEET: usize = 4_096;
+
+// How many bodies a sheet may order.
+pub const MAX_BODIES: usize = 32;
+
+// How many bytes a body may have.
+pub const MAX_LENGTH: u32 = 1_048_576;
+
+// How many blocks all bodies together may have.
+pub const MAX_BLOCKS: u64 = 1_000_000;
+
+// How many bytes a name may have.
+pub const MAX_NAME: usize = 32;
+
+// How many bytes of the work area `check` uses: 56 for each of 32 bodies.
+pub const WORK_LENGTH: usize = 1_792;
 
 // The block cipher that a sheet orders.
 #[derive(Clone, Copy, PartialEq, Eq, Debug)]
@@ -26,11 +48,54 @@ impl CipherKind {
     }
 }
 
+// That a number is the block length of no cipher.
+#[derive(Clone, Copy, PartialEq, Eq, Debug)]
+pub struct NoCipher;
+
+// The cipher that has a block length.
+impl TryFrom<usize> for CipherKind {
+    type Error = NoCipher;
+
+    ghost try_from_gives = { λ n r. r ≡ ok_or (cipher_with n) (record {}) };
+
+    fn try_from(n: usize) -> Result<CipherKind, NoCipher> {
+        match n {
+            8 => Ok(CipherKind::Magma),
+            16 => Ok(CipherKind::Kuznyechik),
+            _ => Err(NoCipher),
+        }
+    }
+}
+
+// The word of a cipher line.
+impl fmt::Display for CipherKind {
+    ghost output = { λ c. Some (cipher_word c) };
+
+    fn fmt<W: fmt::Write>(&self, f: &mut fmt::Formatter<W>) -> fmt::Result {
+        f.write_str(match self {
+            CipherKind::Kuznyechik => "kuz",
+            CipherKind::Magma => "magma",
+        })
+    }
+}
+
 // The mode of operation of one body.
 #[derive(Clone, Copy, PartialEq, Eq, Debug)]
 pub enum Mode {
     Ctr,
     Cbc,
+}
+
+// The word of a body line.
+impl fmt::Display for Mode {
+    ghost output = { λ m. Some (mode_word m) };
+
+    fn fmt<W: fmt::Write>(&self, f: &mut fmt::Formatter<W>) -> fmt::Result {
+        f.write_str(match self {
+            Mode::Ctr => "ctr",
+            Mode::Cbc => "cbc",
+        })
+    }
 }
 
 impl Mode {
@@ -65,6 +130,19 @@ impl Mode {
             Mode::Cbc => cipher.block_length() as u64 * self.blocks(cipher, length),
         }
     }
+}
+
+fn all_graphic(text: &[u8]) -> bool
+    ensures { result ≡ all_graphic text.now }
+{
+    text.iter().all(|b| matches!(*b, 33..=126))
+}
+
+// 1 to 32 bytes from 33 to 126.
+pub fn is_name(text: &[u8]) -> bool
+    ensures { result ≡ is_name text.now }
+{
+    !text.is_empty() && text.len() <= MAX_NAME && all_graphic(text)
 }
 
 // A decimal number as it is written: its value, and whether a needless zero stands in front.

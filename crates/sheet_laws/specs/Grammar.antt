@@ -3,22 +3,11 @@ use Rattle.std.specs.Prelude.{◌≡◌, ℕ, ◌<◌, true, List, [], ◌∷◌
 use Rattle.std.specs.List.{flat_map, AllByRecursion}
 use Rattle.sheet_format.specs.Digits.{decimal_of}
 use Rattle.sheet_format.specs.Lines.{Row, ended, unended, rows_of, Body, Form, blank, comment, cipher, body, is_start, is_name, form_of, lines_of}
-use Rattle.sheet_format.specs.declared.CipherKind.{CipherKind}
-use Rattle.sheet_format.specs.declared.CipherKind.TheVariants.{Kuznyechik, Magma}
-use Rattle.sheet_format.specs.declared.Mode.{Mode}
-use Rattle.sheet_format.specs.declared.Mode.TheVariants.{Ctr, Cbc}
+pub use Rattle.sheet_format.specs.Words.{cipher_word, mode_word}
 
 -- each follows from the other
 abbrev pub Iff : Type 0 → Type 0 → Type 0
 Iff P Q = (P → Q) × (Q → P)
-
-abbrev pub cipher_word : CipherKind → List ℕ
-cipher_word Kuznyechik = codes "kuz"
-cipher_word Magma = codes "magma"
-
-abbrev pub mode_word : Mode → List ℕ
-mode_word Ctr = codes "ctr"
-mode_word Cbc = codes "cbc"
 
 abbrev pub spaced : List ℕ → List ℕ → List ℕ
 spaced word rest = word ++ 32 ∷ rest

@@ -1,31 +1,31 @@
-use Rattle.std.proofs.Common.{◌≡◌, ℕ, ◌+◌, ◌-◌, ◌<◌, ◌≤◌, List, [], ◌∷◌, ◌++◌, length, get_or, take, drop, Some, None, Option, sym, refl, ap, ◌∙◌, append_assoc, append-nil, rules}
-use native.Mathlib.Nat.{sub-zero}
-use Rattle.std.proofs.lemmas.List.{at_drop_more, at_drop_all, take_rest, take_more}
+-- A text that is cut at its first byte `at`, by the place of that byte.
+use Rattle.std.proofs.Common.{suc, ◌≡◌, ℕ, ◌+◌, ◌<◌, ◌≤◌, true, false, cond, eqb, ltb, List, [], ◌∷◌, length, take, drop, Some, None, Option, refl, sym, ap, ◌∙◌, ⊎_elim, arith, add-one}
+use Rattle.std.specs.List.{position, position_or_len}
+use Rattle.std.specs.Option.{option_map}
+use Rattle.std.proofs.lemmas.Bool.{cases_Bool, cases_lt, lt-ltb, le-ltb}
 use Rattle.sheet_format.specs.Lines.{grown, cut_of}
 
--- a word with more in front
-abbrev pub grown_by : List ℕ → Option (List ℕ × List ℕ) → Option (List ℕ × List ℕ)
-grown_by xs None = None
-grown_by xs (Some p) = Some (xs ++ p.0, p.1)
+-- the two parts beside place n, if the text has it
+abbrev beside : ℕ → List ℕ → Option (List ℕ × List ℕ)
+beside n xs = option_map (λ i. (take i xs, drop (i + 1) xs)) (cond (ltb n (length xs)) (Some n) None)
 
-grown_by-more : (xs : List ℕ) (x : ℕ) (o : Option (List ℕ × List ℕ)) → grown_by (xs ++ x ∷ []) o ≡ grown_by xs (grown x o)
-grown_by-more xs x None = refl
-grown_by-more xs x (Some p) = ap (λ (w : List ℕ). Some (w, p.1)) (append_assoc xs (x ∷ []) p.0)
+beside-more : (n x : ℕ) (xs : List ℕ) → beside (1 + n) (x ∷ xs) ≡ grown x (beside n xs)
+beside-more n x xs =
+    let one : 1 + n ≡ suc n = omega arith in
+    ⊎_elim
+    (λ (h : n < length xs).
+    let a : ltb n (length xs) ≡ true = lt-ltb _ _ h in
+    let b : ltb (1 + n) (length (x ∷ xs)) ≡ true = lt-ltb _ _ (omega arith) in rw (a, b) (simp (one, add-one)))
+    (λ (h : length xs ≤ n).
+    let a : ltb n (length xs) ≡ false = le-ltb _ _ h in
+    let b : ltb (1 + n) (length (x ∷ xs)) ≡ false = le-ltb _ _ (omega arith) in rw (a, b))
+    (cases_lt n (length xs))
 
-module _ (at i : ℕ) (s : List ℕ) (within : i < length s) (inv : grown_by (take i s) (cut_of at (drop i s)) ≡ cut_of at s) where
-  pub cut-found : get_or s i 0 ≡ at → Some (take (i - 0) s, take (length s - (i + 1)) (drop (i + 1) s)) ≡ cut_of at s
-  cut-found q =
-      let e = at_drop_more (cut_of at) s i 0 within in
-      let f : cut_of at (drop i s) ≡ Some ([], drop (i + 1) s) = search (rules, e) in
-      let g : Some (take i s ++ [], drop (i + 1) s) ≡ cut_of at s = ap (grown_by (take i s)) (sym f) ∙ inv in
-      rw (take_rest s (i + 1), sub-zero i, ← append-nil (take i s)) g
-
-  pub cut-more : (get_or s i 0 ≡ at → ⊥) → grown_by (take (i + 1) s) (cut_of at (drop (i + 1) s)) ≡ cut_of at s
-  cut-more q =
-      let e = at_drop_more (cut_of at) s i 0 within in
-      let f : cut_of at (drop i s) ≡ grown (get_or s i 0) (cut_of at (drop (i + 1) s)) = search (rules, e) in
-      rw (take_more s i 0 within)
-      (grown_by-more (take i s) (get_or s i 0) (cut_of at (drop (i + 1) s)) ∙ ap (grown_by (take i s)) (sym f) ∙ inv)
-
-pub cut-none : (at i : ℕ) (s : List ℕ) → length s ≤ i → grown_by (take i s) (cut_of at (drop i s)) ≡ cut_of at s → None ≡ cut_of at s
-cut-none at i s h inv = ap (grown_by (take i s)) (sym (at_drop_all (cut_of at) s i h)) ∙ inv
+pub cut_at : (at : ℕ) (xs : List ℕ) → cut_of at xs ≡ option_map (λ i. (take i xs, drop (i + 1) xs)) (position (λ b. eqb b at) xs)
+cut_at at [] = refl
+cut_at at (x ∷ xs) =
+    let n = position_or_len (λ b. eqb b at) xs in
+    ⊎_elim
+    (λ (t : eqb x at ≡ true). let a : ltb 0 (length (x ∷ xs)) ≡ true = lt-ltb _ _ (omega arith) in rw (t, a) refl)
+    (λ (t : eqb x at ≡ false). rw t (ap (grown x) (cut_at at xs) ∙ sym (beside-more n x xs)))
+    (cases_Bool (eqb x at))

@@ -1,39 +1,33 @@
 // The fields of a line: words, START, LENGTH and NAME.
-ghost use Rattle.std.specs.Prelude.{◌≡◌, ℕ, ◌≤◌, length};
-ghost use Rattle.std.specs.Str.{bytes_eq};
+ghost use Rattle.std.specs.Prelude.{◌≡◌, ℕ, ◌≤◌, eqb, length, position};
 ghost use Rattle.sheet_format.specs.Digits.{decimal_from, decimal_of};
-ghost use Rattle.sheet_format.specs.Lines.{all_graphic, cipher_of, cut_of, is_name, is_start, mode_of};
+ghost use Rattle.sheet_format.specs.Lines.{cipher_of, cut_of, is_start, mode_of};
 ghost use Rattle.sheet_lines.specs.Models.{pair_model};
 
 use sheet_format::{CipherKind, Decimal, Mode};
+
+// The place of the first `at`.
+fn place_of(text: &[u8], at: u8) -> Option<usize>
+    ensures { result ≡ position (λ b. eqb b at) text.now }
+{
+    text.iter().position(|b| *b == at)
+}
 
 // What stands before the first `at`, and what stands after it.
 pub fn cut<'a>(text: &'a [u8], at: u8) -> Option<(&'a [u8], &'a [u8])>
     ensures { pair_model result ≡ cut_of at text.now }
 {
-    for (i, b) in text.iter().enumerate() {
-        if *b == at {
-            return Some((&text[0..i], &text[i + 1..]));
-        }
-    }
-    None
-}
-
-fn is_word(text: &[u8], word: &[u8]) -> bool
-    ensures { result ≡ bytes_eq text.now word.now }
-{
-    text == word
+    let i = place_of(text, at)?;
+    Some((&text[..i], &text[i + 1..]))
 }
 
 pub fn read_mode(word: &[u8]) -> Option<Mode>
     ensures { result ≡ mode_of word.now }
 {
-    if is_word(word, b"ctr") {
-        Some(Mode::Ctr)
-    } else if is_word(word, b"cbc") {
-        Some(Mode::Cbc)
-    } else {
-        None
+    match word {
+        b"ctr" => Some(Mode::Ctr),
+        b"cbc" => Some(Mode::Cbc),
+        _ => None,
     }
 }
 
@@ -41,9 +35,10 @@ pub fn read_mode(word: &[u8]) -> Option<Mode>
 pub fn read_cipher(tail: &[u8]) -> Option<CipherKind>
     ensures { result ≡ cipher_of tail.now }
 {
-    if is_word(tail, b" kuz") {
+    // no `match` as in `read_mode`: the check finds no proof at a pattern of six bytes
+    if tail == b" kuz".as_slice() {
         Some(CipherKind::Kuznyechik)
-    } else if is_word(tail, b" magma") {
+    } else if tail == b" magma".as_slice() {
         Some(CipherKind::Magma)
     } else {
         None
@@ -55,24 +50,6 @@ pub fn is_start(text: &[u8]) -> bool
     ensures { result ≡ is_start text.now }
 {
     !text.is_empty() && hex_digits::all_hex_digits(text)
-}
-
-fn all_graphic(text: &[u8]) -> bool
-    ensures { result ≡ all_graphic text.now }
-{
-    for b in text {
-        if !matches!(*b, 33..=126) {
-            return false;
-        }
-    }
-    true
-}
-
-// 1 to 32 bytes from 33 to 126.
-pub fn is_name(text: &[u8]) -> bool
-    ensures { result ≡ is_name text.now }
-{
-    !text.is_empty() && text.len() <= 32 && all_graphic(text)
 }
 
 // The number that digits mean, `None` where a byte is no digit.

@@ -4,8 +4,8 @@ ghost use Rattle.std.specs.Option.{option_map};
 ghost use Rattle.sheet_format.specs.Lines.{body_of, fields_of, form_of};
 ghost use Rattle.sheet_lines.specs.Models.{body_model, form_model};
 
-use super::fields::{cut, is_name, is_start, read_cipher, read_decimal, read_mode};
-use sheet_format::{CipherKind, Decimal, Mode};
+use super::fields::{cut, is_start, read_cipher, read_decimal, read_mode};
+use sheet_format::{CipherKind, Decimal, Mode, is_name};
 
 // A body line. START and NAME are parts of the sheet.
 #[derive(Clone, Copy)]

@@ -52,3 +52,17 @@ impl<'a> Lines<'a> {
         }
     }
 }
+
+impl<'a> Iterator for Lines<'a> {
+    ghost use Rattle.sheet_lines.specs.Next.{GivesLine, bytes_left};
+
+    type Item = Result<Line<'a>, SheetFault>;
+
+    ghost next_gives = { GivesLine };
+
+    ghost remaining = { bytes_left };
+
+    fn next(&mut self) -> Option<Result<Line<'a>, SheetFault>> {
+        self.next_line()
+    }
+}

@@ -8,11 +8,9 @@ use Rattle.sheet.proofs.checking.check_lines.Given as goal
 abbrev pub invariant-loop-item : goal.invariant-loop-item
 invariant-loop-item l =
     (earlier : List Line) × Stands l.progress l.area earlier
-    × (l.lines.number ≡ length earlier)
-    × (l.lines.number + length l.lines.rest.now ≤ 4096)
-    × (order_from earlier (lines_of l.lines.rest.now) ≡ order_from [] (lines_of l.sheet))
+    × (l.item-iterator.number ≡ length earlier)
+    × (l.item-iterator.number + length l.item-iterator.rest.now ≤ 4096)
+    × (order_from earlier (lines_of l.item-iterator.rest.now) ≡ order_from [] (lines_of l.sheet))
     × (l.last ≡ length earlier)
     × (drop 1792 l.area ≡ drop 1792 l.initial.area)
 
-abbrev pub decreases-loop-item : goal.decreases-loop-item
-decreases-loop-item l = length l.lines.rest.now

@@ -1,11 +1,10 @@
-use Rattle.sheet_lines.proofs.Cuts.{cut-found, cut-more, cut-none}
+use Rattle.std.proofs.Common.{◌+◌, rules}
+use Rattle.std.proofs.lemmas.List.{take_rest}
+use Rattle.sheet_lines.proofs.Cuts.{cut_at}
 use Rattle.sheet_lines.proofs.fields.cut.Goals as goal
 
-pub returns-then-b-at : goal.returns-then-b-at
-returns-then-b-at c = cut-found c.args.at c.loop-i.i c.args.text.now c.loop-i-test.true c.loop-i.invariant c.if-b-at.true
-
-pub loop-i-preserved : goal.loop-i-preserved
-loop-i-preserved c = cut-more c.args.at c.loop-i.i c.args.text.now c.loop-i-test.true c.loop-i.invariant c.if-b-at.false
+pub returns-in_err-i : goal.returns-in_err-i
+returns-in_err-i c = let e = cut_at c.args.at c.args.text.now in search (rules, e)
 
 pub returns : goal.returns
-returns c = cut-none c.args.at c.loop-i.i c.args.text.now c.loop-i-test.false c.loop-i.invariant
+returns c = let e = cut_at c.args.at c.args.text.now in rw (take_rest c.args.text.now (c.in_ok-i.i + 1)) (search (rules, e))
