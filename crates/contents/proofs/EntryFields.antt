@@ -1,7 +1,7 @@
 -- The fields of an entry of 56 bytes, and what is read of them.
-use Rattle.std.proofs.Common.{◌≡◌, ℕ, ◌-◌, ◌<◌, ◌≤◌, Bool, true, false, eqb, leb, List, ◌∷◌, ◌++◌, length, get_or, take, drop, Some, None, Option, sym, ap, ◌∙◌, subst, ap₂, arith}
+use Rattle.std.proofs.Common.{◌≡◌, ℕ, ◌-◌, ◌<◌, ◌≤◌, Bool, true, List, ◌∷◌, ◌++◌, length, get_or, take, drop, Some, Option, sym, ap, ◌∙◌, subst, ap₂, arith}
 use Rattle.std.proofs.lemmas.List.{take-append-drop, take_rest, drop-drop}
-use Rattle.std.proofs.lemmas.Bool.{and_right, eq-eqb, le-leb}
+use Rattle.std.proofs.lemmas.Bool.{eq-eqb, le-leb}
 use Rattle.sheet_format.specs.Lines.{bind, given}
 use Rattle.sheet_format.specs.Orders.{BodyOrder}
 use Rattle.sheet_format.specs.declared.Mode.{Mode}
@@ -29,14 +29,6 @@ module _ (n : ℕ) (e : List ℕ) (mode : Mode) (start name : List ℕ) (l : ℕ
       let k = name-part e name back in
       sym (h ∙ ap₂ (λ (xs ys : List ℕ). fields_hold xs l ys (get_or e 1 0)) s k
       ∙ ap (λ (i : ℕ). fields_hold (start_field e) i (name_field e) (get_or e 1 0)) sl)
-
-  pub entry-refused : false ≡ fields_hold start l name (get_or e 1 0) → None ≡ entry_read n e
-  entry-refused h =
-      let f = holds-so false h in
-      let t : is_entry n mode e ≡ false =
-      and_right (eqb (get_or e 2 0) 0) _ (and_right (eqb (get_or e 3 0) 0) _ (and_right (leb (length_field e) 1048576) _ (and_right (leb (get_or e 1 0) 32) _ f))) in
-      sym (ap (λ (o : Option Mode). bind o (λ x. given (is_entry n x e) (Some (body_at n x e)))) (sym m)
-      ∙ ap (λ (b : Bool). given b (Some (body_at n mode e))) t)
 
   abbrev entry : ℕ → Entry
   entry len = record { mode = mode; length = len; start = start; name_length = get_or e 1 0; name = name }

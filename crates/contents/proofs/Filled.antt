@@ -1,53 +1,44 @@
--- Fields that are filled from the front.
-use Rattle.std.proofs.Common.{◌≡◌, ℕ, ◌+◌, ◌-◌, ◌*◌, ◌/◌, ◌<◌, ◌≤◌, List, [], ◌∷◌, ◌++◌, length, get_or, take, drop, set, replicate, unwrap_or, sym, refl, ap, ◌∙◌, ap₂, append_assoc, append-nil, arith, length-drop}
-use Rattle.std.proofs.lemmas.List.{length-take-le, take-append-drop, take_all, take_more, take_more_set, drop-set-lt, drop-drop, drop_more, drop-replicate}
-use Rattle.hex_digits.specs.Hex.{hex_value, hex_bytes}
+-- Fields that are filled up with zeros.
+use Rattle.std.proofs.Common.{◌≡◌, ℕ, ◌-◌, ◌*◌, ◌/◌, ◌≤◌, true, List, [], ◌∷◌, ◌++◌, length, drop, replicate, refl, ap, ◌∙◌, arith}
+use Rattle.std.proofs.lemmas.List.{drop-replicate}
+use Rattle.std.proofs.lemmas.Bool.{and_from, eq-eqb}
+use Rattle.hex_digits.specs.Hex.{all_hex_digits, hex_bytes, is_hex, read_out}
+use Rattle.sheet_format.specs.Lines.{Body, is_start}
+use Rattle.sheet_format.specs.Sizes.{block_length, start_digits}
+use Rattle.sheet_format.specs.declared.CipherKind.{CipherKind}
+use Rattle.sheet_format.specs.declared.CipherKind.TheVariants.{Kuznyechik, Magma}
+use Rattle.sheet_format.specs.declared.Mode.{Mode}
+use Rattle.sheet_format.specs.declared.Mode.TheVariants.{Ctr, Cbc}
 use Rattle.contents_format.specs.Layout.{filled}
+use Rattle.contents_laws.specs.BodyLines.{FitLine}
 
--- the rest of a field is still zeros
-pub zeros-more : (k i v : ℕ) (field : List ℕ) → i < k → drop i field ≡ replicate (k - i) 0 → drop (i + 1) (set field i v) ≡ replicate (k - (i + 1)) 0
-zeros-more k i v field less e =
-    drop-set-lt (i + 1) field i v (omega arith) ∙ sym (drop-drop 1 i field) ∙ ap (drop 1) e ∙ drop-replicate 1 (k - i) 0
-    ∙ ap (λ (m : ℕ). replicate m 0) (let h : k - i - 1 ≡ k - (i + 1) = omega arith in h)
+-- what is written to the front of zeros
+pub front-filled : (k n : ℕ) (ys : List ℕ) → n ≡ length ys → ys ++ drop n (replicate k 0) ≡ filled k ys
+front-filled k n ys e = ap (λ (zs : List ℕ). ys ++ zs) (drop-replicate n k 0) ∙ ap (λ (m : ℕ). ys ++ replicate (k - m) 0) e
 
--- one byte more of a name
-pub name-more : (i : ℕ) (field name : List ℕ) → i < length field → i < length name → take i field ≡ take i name
-    → take (i + 1) (set field i (get_or name i 0)) ≡ take (i + 1) name
-name-more i field name less few e =
-    take_more_set field i (get_or name i 0) less ∙ ap (λ (xs : List ℕ). xs ++ get_or name i 0 ∷ []) e ∙ sym (take_more name i 0 few)
+length-hex_bytes : (xs : List ℕ) → length (hex_bytes xs) ≡ length xs / 2
+length-hex_bytes [] = refl
+length-hex_bytes (x ∷ []) = refl
+length-hex_bytes (x ∷ y ∷ zs) = omega (arith, length-hex_bytes zs)
 
-pub name-filled : (k i : ℕ) (field name : List ℕ) → length name ≡ i → take i field ≡ take i name → drop i field ≡ replicate (k - i) 0 → field ≡ filled k name
-name-filled k i field name all front back =
-    sym (take-append-drop i field) ∙ ap₂ (λ (xs ys : List ℕ). xs ++ ys) (front ∙ take_all i name (omega arith)) back
-    ∙ ap (λ (m : ℕ). name ++ replicate (k - m) 0) (sym all)
+pub start-filled : (out digits field : List ℕ) → length field ≡ length digits / 2 → is_hex (length digits / 2) digits ≡ true → out ≡ read_out field digits
+    → out ++ drop (length digits / 2) (replicate 16 0) ≡ filled 16 (hex_bytes digits)
+start-filled out digits field long hex e =
+    let made : out ≡ hex_bytes digits = e ∙ rw (long, hex) refl in
+    ap (λ (xs : List ℕ). xs ++ drop (length digits / 2) (replicate 16 0)) made ∙ front-filled 16 (length digits / 2) (hex_bytes digits) (omega (arith, length-hex_bytes digits))
 
--- one byte more of START
-pub start-more : (i v : ℕ) (field digits : List ℕ) → i < length field → 2 * i + 1 < length digits
-    → v ≡ 16 * unwrap_or (hex_value (get_or digits (2 * i) 0)) 0 + unwrap_or (hex_value (get_or digits (2 * i + 1) 0)) 0
-    → hex_bytes digits ≡ take i field ++ hex_bytes (drop (2 * i) digits)
-    → hex_bytes digits ≡ take (i + 1) (set field i v) ++ hex_bytes (drop (2 * (i + 1)) digits)
-start-more i v field digits less few is e =
-    let rest = drop (2 * i + 1 + 1) digits in
-    let on : drop (2 * i + 1 + 1) digits ≡ drop (2 * (i + 1)) digits = ap (λ (m : ℕ). drop m digits) (let h : 2 * i + 1 + 1 ≡ 2 * (i + 1) = omega arith in h) in
-    let two : drop (2 * i) digits ≡ get_or digits (2 * i) 0 ∷ get_or digits (2 * i + 1) 0 ∷ drop (2 * i + 1 + 1) digits =
-    drop_more digits (2 * i) 0 (omega arith) ∙ ap (λ (xs : List ℕ). get_or digits (2 * i) 0 ∷ xs) (drop_more digits (2 * i + 1) 0 few) in
-    e ∙ ap (λ (xs : List ℕ). take i field ++ hex_bytes xs) two
-    ∙ ap₂ (λ (x : ℕ) (xs : List ℕ). take i field ++ x ∷ hex_bytes xs) (sym is) on
-    ∙ sym (append_assoc (take i field) (v ∷ []) (hex_bytes (drop (2 * (i + 1)) digits)))
-    ∙ ap (λ (xs : List ℕ). xs ++ hex_bytes (drop (2 * (i + 1)) digits)) (sym (take_more_set field i v less))
+digits-even : (c : CipherKind) (mode : Mode) (k : ℕ) → k ≡ start_digits mode (block_length c) → (k ≡ 2 * (k / 2)) × (k ≤ 32)
+digits-even Kuznyechik Ctr k e = (omega arith, omega arith)
+digits-even Kuznyechik Cbc k e = (omega arith, omega arith)
+digits-even Magma Ctr k e = (omega arith, omega arith)
+digits-even Magma Cbc k e = (omega arith, omega arith)
 
--- fewer than two digits are no byte
-no_byte : (xs : List ℕ) → length xs ≤ 1 → hex_bytes xs ≡ []
-no_byte [] h = refl
-no_byte (x ∷ []) h = refl
-no_byte (x ∷ y ∷ xs) h = absurd (let f : ⊥ = omega arith in f)
+hex-start : (text : List ℕ) → is_start text ≡ true → all_hex_digits text ≡ true
+hex-start [] t = refl
+hex-start (x ∷ xs) t = t
 
-pub start-filled : (k i : ℕ) (field digits : List ℕ) → length field ≡ k → i ≤ k → length digits / 2 ≡ i
-    → hex_bytes digits ≡ take i field ++ hex_bytes (drop (2 * i) digits) → drop i field ≡ replicate (k - i) 0 → field ≡ filled k (hex_bytes digits)
-start-filled k i field digits long few all e back =
-    let left = length-drop (2 * i) digits in
-    let whole : hex_bytes digits ≡ take i field =
-    e ∙ ap (λ (xs : List ℕ). take i field ++ xs) (no_byte (drop (2 * i) digits) (omega arith)) ∙ append-nil (take i field) in
-    let many : length (hex_bytes digits) ≡ i = ap length whole ∙ length-take-le i field (omega arith) in
-    sym (take-append-drop i field) ∙ ap₂ (λ (xs ys : List ℕ). xs ++ ys) (sym whole) back
-    ∙ ap (λ (m : ℕ). hex_bytes digits ++ replicate (k - m) 0) (sym many)
+-- START of a body line that keeps the rules is two digits for each byte
+pub start-digits : (c : CipherKind) (b : Body) → FitLine (block_length c) b → (length b.start ≤ 32) × (is_hex (length b.start / 2) b.start ≡ true)
+start-digits c b f =
+    let even = digits-even c b.mode (length b.start) f.digits in
+    (even.1, and_from _ _ (eq-eqb (length b.start) (2 * (length b.start / 2)) even.0) (hex-start b.start f.start))

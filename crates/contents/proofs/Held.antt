@@ -1,10 +1,10 @@
 -- Entries that are held: their bytes are those of the entries of their bodies, and the bodies are those of a sheet that passes.
-use Rattle.std.proofs.Common.{◌≡◌, ℕ, ◌+◌, ◌<◌, ◌≤◌, true, ltb, List, [], ◌∷◌, ◌++◌, map, length, get_or, take, Some, Decides, sym, refl, ◌∙◌, ap₂, append_assoc, append-nil, arith}
+use Rattle.std.proofs.Common.{◌≡◌, ℕ, ◌+◌, ◌<◌, ◌≤◌, true, ltb, List, [], ◌∷◌, ◌++◌, map, length, get_or, Some, Decides, sym, refl, ◌∙◌, ap₂, append_assoc, append-nil, arith}
 use lib.ListN.{length-map}
 use Rattle.std.specs.List.{flat_map, AllByRecursion}
 use Rattle.std.proofs.ByRecursion.{All-from_get_or, All-push, Decides-by_and}
 use Rattle.std.proofs.lemmas.Slice.Eq.{bytes_eq-Decides}
-use Rattle.std.proofs.lemmas.List.{length_push, length-take-le}
+use Rattle.std.proofs.lemmas.List.{length_push}
 use Rattle.std.proofs.lemmas.Bool.{and_parts, and_from, eqb-true, eq-eqb, leb-true, le-leb}
 use Rattle.std.proofs.lemmas.Bool.Decides.{Decides-ltb}
 use Rattle.sheet_format.specs.Orders.{BodyOrder}
@@ -90,40 +90,35 @@ sound-if-stand n earlier (b ∷ later) s f few t =
     (sound-push n earlier b (omega arith) s f.0 ((next-decides n earlier b).0 p.0)) f.1 (omega arith) p.1)
 
 -- what contents are
-pub record Good (c : CipherKind) (k : ℕ) (rows : List Entry) : Type 0 where
-  pub some : 1 ≤ k
-  pub few : k ≤ 32
-  pub rooms : length rows ≡ 32
-  pub held : AllByRecursion (λ e. is_held (block_length c) e ≡ true) (take k rows)
-  pub many : length (bodies_in (block_length c) k rows) ≡ k
-  pub sound : Sound (block_length c) (bodies_in (block_length c) k rows)
+pub record Good (c : CipherKind) (es : List Entry) : Type 0 where
+  pub some : 1 ≤ length es
+  pub few : length es ≤ 32
+  pub held : AllByRecursion (λ e. is_held (block_length c) e ≡ true) es
+  pub many : length (bodies_in (block_length c) es) ≡ length es
+  pub sound : Sound (block_length c) (bodies_in (block_length c) es)
 
-pub good-if : (c : CipherKind) (k : ℕ) (rows : List Entry) → is_contents c k rows ≡ true → Good c k rows
-good-if c k rows t =
+pub good-if : (c : CipherKind) (es : List Entry) → is_contents c es ≡ true → Good c es
+good-if c es t =
     let n = block_length c in
     let p = and_parts _ _ t in
     let q = and_parts _ _ p.1 in
-    let l = and_parts _ _ q.1 in
-    let r = and_parts _ _ l.1 in
-    let few : k ≤ 32 = leb-true k 32 q.0 in
-    let rooms : length rows ≡ 32 = eqb-true (length rows) 32 l.0 in
-    let held = held_all n (take k rows) r.0 in
-    let long : length (bodies_in n k rows) ≡ k = length-map (take k rows) (body_in n) ∙ length-take-le k rows (omega arith) in
+    let r = and_parts _ _ q.1 in
+    let few : length es ≤ 32 = leb-true (length es) 32 q.0 in
+    let held = held_all n es r.0 in
+    let long : length (bodies_in n es) ≡ length es = length-map es (body_in n) in
     record {
-      some = leb-true 1 k p.0;
+      some = leb-true 1 (length es) p.0;
       few = few;
-      rooms = rooms;
       held = held;
       many = long;
-      sound = sound-if-stand n [] (bodies_in n k rows) (sound_none n) (fit_all n (take k rows) held) (omega arith) r.1;
+      sound = sound-if-stand n [] (bodies_in n es) (sound_none n) (fit_all n es held) (omega arith) r.1;
     }
 
-pub contents-if : (c : CipherKind) (k : ℕ) (rows : List Entry) → 1 ≤ k → k ≤ 32 → length rows ≡ 32 → are_held (block_length c) (take k rows) ≡ true
-    → Sound (block_length c) (bodies_in (block_length c) k rows) → is_contents c k rows ≡ true
-contents-if c k rows some few rooms held s =
-    and_from _ _ (le-leb 1 k some)
-    (and_from _ _ (le-leb k 32 few)
-    (and_from _ _ (eq-eqb (length rows) 32 rooms) (and_from _ _ held (stand-if-sound (block_length c) [] (bodies_in (block_length c) k rows) s))))
+pub contents-if : (c : CipherKind) (es : List Entry) → 1 ≤ length es → length es ≤ 32 → are_held (block_length c) es ≡ true
+    → Sound (block_length c) (bodies_in (block_length c) es) → is_contents c es ≡ true
+contents-if c es some few held s =
+    and_from _ _ (le-leb 1 (length es) some)
+    (and_from _ _ (le-leb (length es) 32 few) (and_from _ _ held (stand-if-sound (block_length c) [] (bodies_in (block_length c) es) s)))
 
 -- the entries of contents, as they are written, are those of their bodies
 pub entries-same : (n : ℕ) (es : List Entry) → AllByRecursion (λ e. is_held n e ≡ true) es → flat_map bytes_in es ≡ flat_map entry_of (map (body_in n) es)

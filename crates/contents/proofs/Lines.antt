@@ -1,9 +1,9 @@
 -- The body lines of a sheet as entries.
-use Rattle.std.proofs.Common.{◌≡◌, ℕ, ◌+◌, ◌-◌, ◌<◌, ◌≤◌, true, false, ltb, List, [], ◌∷◌, ◌++◌, map, length, take, set, replicate, Some, None, Ok, Err, Result, sym, refl, ap, ◌∙◌, subst, ap₂, ⊎_elim, append_assoc, arith}
+use Rattle.std.proofs.Common.{◌≡◌, ℕ, ◌+◌, ◌-◌, ◌<◌, ◌≤◌, true, false, ltb, List, [], ◌∷◌, ◌++◌, map, length, take, replicate, Some, None, Ok, Err, Result, sym, refl, ap, ◌∙◌, subst, ap₂, ⊎_elim, append_assoc, arith}
 use lib.ListN.{length-map}
 use Rattle.std.specs.List.{flat_map, AllByRecursion}
 use Rattle.std.proofs.lemmas.Slice.Eq.{bytes_eq-Decides}
-use Rattle.std.proofs.lemmas.List.{take_at}
+use Rattle.std.proofs.lemmas.List.{length_push, map_push, take_at}
 use Rattle.std.proofs.lemmas.Bool.{and_from, cases_Bool}
 use Rattle.hex_digits.specs.Hex.{hex_bytes}
 use Rattle.sheet_format.specs.Lines.{Body, Form, blank, comment, cipher, body, Line, lines_of}
@@ -33,7 +33,6 @@ use Rattle.contents.specs.Entries.{are_held, body_in, bodies_in, bytes_in, is_co
 use Rattle.contents.specs.Models.{ordered_by}
 use Rattle.contents.specs.declared.entry.Entry.{Entry}
 use Rattle.contents.proofs.Held.{contents-if, fit-test}
-use Rattle.contents.proofs.Next.{bodies-more}
 
 module _ (c : CipherKind) (b : Body) (start name : List ℕ) (fit : FitLine (block_length c) b) (s : start ≡ filled 16 (hex_bytes b.start))
     (k : name ≡ filled 32 b.name) where
@@ -110,11 +109,6 @@ module _ (k : ℕ) where
   next-named (Some g ∷ ls) i f e =
       let q : (i, f) ≡ (k + 1, g) = cc in ap (λ (p : ℕ × Form). body_named (Some p.1) ++ orders.bodies_in ls) (sym q)
 
-  pub next-unnamed : (ls : List Line) (f : SheetFault) → Some (Err f) ≡ next_of k ls → orders.bodies_in ls ≡ orders.bodies_in (tail_of ls)
-  next-unnamed [] f e = clash (cc)
-  next-unnamed (None ∷ ls) f e = refl
-  next-unnamed (Some g ∷ ls) f e = clash (cc)
-
   pub next-less : (ls : List Line) (item : Result (ℕ × Form) SheetFault) → Some item ≡ next_of k ls → length (tail_of ls) < length ls
   next-less [] item e = clash (cc)
   next-less (None ∷ ls) item e = omega arith
@@ -127,20 +121,21 @@ none_named (LineKind.Cipher c) h = refl
 none_named (LineKind.Body b) h = absurd (h b refl)
 
 -- One body line more: `rest` are the bodies of the lines that were left before it, and `later` those that are left after it.
-module _ (n count : ℕ) (rows : List Entry) (e : Entry) (b : Body) (rest later : List Body) (first : rest ≡ b ∷ later) where
+module _ (n : ℕ) (es more : List Entry) (e : Entry) (b : Body) (rest later : List Body) (first : rest ≡ b ∷ later) (pushed : more ≡ es ++ e ∷ []) where
   pub line-fits : AllByRecursion (FitLine n) rest → FitLine n b × AllByRecursion (FitLine n) later
   line-fits h = let k : AllByRecursion (FitLine n) (b ∷ later) = rw first at h in (k.0, k.1)
 
-  pub line-counted : (whole : ℕ) → count + length rest ≡ whole → count + 1 + length later ≡ whole
-  line-counted whole h = let k = ap length first in omega arith
+  pub line-counted : (whole : ℕ) → length es + length rest ≡ whole → length more + length later ≡ whole
+  line-counted whole h = let k = ap length first in let l = ap length pushed ∙ length_push es e in omega arith
 
-  pub line-more : (whole : List BodyOrder) → count < length rows → body_in n e ≡ ordered b
-      → bodies_in n count rows ++ map ordered rest ≡ whole → bodies_in n (count + 1) (set rows count e) ++ map ordered later ≡ whole
-  line-more whole less is inv =
-      ap (λ (bs : List BodyOrder). bs ++ map ordered later) (bodies-more n count rows e less)
-      ∙ append_assoc (bodies_in n count rows) (body_in n e ∷ []) (map ordered later)
-      ∙ ap (λ (x : BodyOrder). bodies_in n count rows ++ x ∷ map ordered later) is
-      ∙ ap (λ (xs : List Body). bodies_in n count rows ++ map ordered xs) (sym first)
+  pub line-more : (whole : List BodyOrder) → body_in n e ≡ ordered b
+      → bodies_in n es ++ map ordered rest ≡ whole → bodies_in n more ++ map ordered later ≡ whole
+  line-more whole is inv =
+      ap (λ (xs : List Entry). bodies_in n xs ++ map ordered later) pushed
+      ∙ ap (λ (bs : List BodyOrder). bs ++ map ordered later) (map_push (body_in n) es e)
+      ∙ append_assoc (bodies_in n es) (body_in n e ∷ []) (map ordered later)
+      ∙ ap (λ (x : BodyOrder). bodies_in n es ++ x ∷ map ordered later) is
+      ∙ ap (λ (xs : List Body). bodies_in n es ++ map ordered xs) (sym first)
       ∙ inv
 
 -- What the line that was read says of the bodies that are left.
@@ -153,9 +148,6 @@ module _ (k : ℕ) (ls after : List Line) (item : Result line.Line SheetFault) (
 
   pub first-named : (b : BodyLine) → l.kind ≡ LineKind.Body b → orders.bodies_in ls ≡ body_model b ∷ orders.bodies_in after
   first-named b e = read-so ∙ ap (λ (x : LineKind). body_named (Some (form_model x)) ++ orders.bodies_in after) e
-
-  pub none_left : ((b : BodyLine) → l.kind ≡ LineKind.Body b → ⊥) → orders.bodies_in ls ≡ orders.bodies_in after
-  none_left h = read-so ∙ ap (λ (bs : List Body). bs ++ orders.bodies_in after) (none_named l.kind h)
 
 -- What `check` answers of a sheet, and the contents that the sheet orders.
 
@@ -172,22 +164,6 @@ checked-order work sheet checked e =
     (a.0, a.1, a.2, t))
     (cases_Bool (ltb work 1792))
 
-fault-order : (r : Result Order SheetFault) (f : SheetFault) → Err f ≡ map_ok summary r → r ≡ Err f
-fault-order (Ok o) f e = clash (cc)
-fault-order (Err g) f e = let q : g ≡ f = cc in ap (λ (x : SheetFault). Err x) q
-
-pub refused-order : (work : ℕ) (sheet : List ℕ) (m : BlockLength) (f : SheetFault) → Err f ≡ checked_of work sheet → Err f ≡ ordered_by work sheet m
-refused-order work sheet m f e =
-    ⊎_elim
-    (λ (t : ltb work 1792 ≡ true).
-    let z : Err f ≡ Err ShortWorkArea = rw t at e in
-    let q : f ≡ ShortWorkArea = cc in
-    rw (t, q))
-    (λ (t : ltb work 1792 ≡ false).
-    let g : Err f ≡ map_ok summary (order_of sheet) = rw t at e in
-    rw (t, fault-order (order_of sheet) f g))
-    (cases_Bool (ltb work 1792))
-
 module _ (work : ℕ) (sheet : List ℕ) (checked : Checked) (m : BlockLength) (e : Ok checked ≡ checked_of work sheet) where
   abbrev o : Order
   o = (checked-order work sheet checked e).0
@@ -198,34 +174,27 @@ module _ (work : ℕ) (sheet : List ℕ) (checked : Checked) (m : BlockLength) (
   pub checked-passed : Passed o.cipher sheet o
   checked-passed = passed sheet o (checked-order work sheet checked e).1
 
-  pub checked-many : checked.bodies ≡ length (orders.bodies_in (lines_of sheet))
-  checked-many =
-      ap (λ (x : Checked). x.bodies) (sym (checked-order work sheet checked e).2) ∙ ap length checked-passed.are
-      ∙ length-map (orders.bodies_in (lines_of sheet)) ordered
+  module _ (c : CipherKind) (es : List Entry) (is : c ≡ o.cipher)
+      (read : bodies_in (block_length c) es ≡ map ordered (orders.bodies_in (lines_of sheet))) where
+    same-bodies : bodies_in (block_length c) es ≡ o.bodies
+    same-bodies = read ∙ sym checked-passed.are
 
-  module _ (c : CipherKind) (rows : List Entry) (is : c ≡ o.cipher)
-      (read : bodies_in (block_length c) (length (orders.bodies_in (lines_of sheet))) rows ≡ map ordered (orders.bodies_in (lines_of sheet))) where
-    same-bodies : bodies_in (block_length c) checked.bodies rows ≡ o.bodies
-    same-bodies = ap (λ (k : ℕ). bodies_in (block_length c) k rows) checked-many ∙ read ∙ sym checked-passed.are
-
-    pub said-order : said_of c m (bodies_in (block_length c) checked.bodies rows) ≡ record { order = o; tag = length_of m }
+    pub said-order : said_of c m (bodies_in (block_length c) es) ≡ record { order = o; tag = length_of m }
     said-order = ap₂ (λ (x : CipherKind) (bs : List BodyOrder). said_of x m bs) is same-bodies
 
-    pub said-answer : Ok (said_of c m (bodies_in (block_length c) checked.bodies rows)) ≡ ordered_by work sheet m
+    pub said-answer : Ok (said_of c m (bodies_in (block_length c) es)) ≡ ordered_by work sheet m
     said-answer =
         let a = checked-order work sheet checked e in
         ap (λ (s : SetOrder). Ok s) said-order ∙ sym (rw (a.3, a.1))
 
-    pub said-passes : Passes sheet (said_of c m (bodies_in (block_length c) checked.bodies rows)).order
+    pub said-passes : Passes sheet (said_of c m (bodies_in (block_length c) es)).order
     said-passes = subst (λ (s : SetOrder). Passes sheet s.order) (sym said-order) checked-passed.passes
 
-    pub said-contents : length rows ≡ 32 → are_held (block_length c) (take (length (orders.bodies_in (lines_of sheet))) rows) ≡ true
-        → is_contents c checked.bodies rows ≡ true
-    said-contents rooms held =
+    pub said-contents : are_held (block_length c) es ≡ true → is_contents c es ≡ true
+    said-contents held =
         let p = sound-if-passes sheet o checked-passed.passes in
-        let many : length o.bodies ≡ checked.bodies = ap length checked-passed.are ∙ length-map (orders.bodies_in (lines_of sheet)) ordered ∙ sym checked-many in
+        let many : length es ≡ length o.bodies = sym (length-map es (body_in (block_length c))) ∙ ap length same-bodies in
         let some : 1 ≤ length o.bodies = p.1 in
         let few : length o.bodies ≤ 32 = p.0.few in
-        contents-if c checked.bodies rows (omega arith) (omega arith) rooms
-        (subst (λ (k : ℕ). are_held (block_length c) (take k rows) ≡ true) (sym checked-many) held)
+        contents-if c es (omega arith) (omega arith) held
         (subst (λ (bs : List BodyOrder). Sound (block_length c) bs) (sym same-bodies) (subst (λ (x : CipherKind). Sound (block_length x) o.bodies) (sym is) p.0))

@@ -1,20 +1,15 @@
 -- One entry more, behind those that were read.
-use Rattle.std.proofs.Common.{◌≡◌, ℕ, suc, ◌+◌, ◌-◌, ◌*◌, ◌<◌, ◌≤◌, Bool, true, false, not, ◌&&◌, List, [], ◌∷◌, ◌++◌, map, length, take, drop, set, Some, None, Ok, Err, Option, Result, sym, ap, ◌∙◌, arith}
-use lib.ListN.{length-map}
-use Rattle.std.proofs.lemmas.List.{length-take-le, map_push, take_more_set, drop-drop}
+use Rattle.std.proofs.Common.{zero, get_or, refl, ◌≡◌, ℕ, suc, ◌+◌, ◌-◌, ◌*◌, ◌<◌, ◌≤◌, Bool, true, false, not, ◌&&◌, List, [], ◌∷◌, ◌++◌, length, take, drop, Some, None, Err, Option, Result, sym, ap, ◌∙◌, arith}
+use Rattle.std.specs.Simd.{first_chunks}
+use Rattle.std.proofs.lemmas.List.{drop-drop}
 use Rattle.std.proofs.lemmas.Bool.{and_right, le-leb, lt-leb}
 use Rattle.sheet_format.specs.Lines.{bind, given}
 use Rattle.sheet_format.specs.Orders.{BodyOrder, is_ctr, total_blocks}
 use Rattle.contents_format.specs.Reading.{entry_read, name_in, ctr_start_in, may_follow, next_body, go_on, bodies_from}
 use Rattle.contents_format.specs.declared.ContentsFault.{ContentsFault}
 use Rattle.contents_format.specs.declared.ContentsFault.TheVariants.{Entry}
-use Rattle.contents.specs.Entries.{body_in, bodies_in}
-use Rattle.contents.specs.declared.entry.Entry as row
 
 module _ (n : ℕ) (earlier : List BodyOrder) (xs : List ℕ) where
-  pub next-unread : None ≡ entry_read n xs → None ≡ next_body n earlier xs
-  next-unread e = ap (λ (o : Option BodyOrder). bind o (λ b. given (may_follow n earlier b) (Some b))) e
-
   follow-so : (b : BodyOrder) (t : Bool) → Some b ≡ entry_read n xs → may_follow n earlier b ≡ t → given t (Some b) ≡ next_body n earlier xs
   follow-so b t e f =
       ap (λ (q : Bool). given q (Some b)) (sym f) ∙ ap (λ (o : Option BodyOrder). bind o (λ b. given (may_follow n earlier b) (Some b))) e
@@ -33,13 +28,6 @@ module _ (n : ℕ) (earlier : List BodyOrder) (xs : List ℕ) where
   pub next-good : (b : BodyOrder) → Some b ≡ entry_read n xs → false ≡ name_in b.name earlier
       → false ≡ (is_ctr b.mode && ctr_start_in b.start earlier) → total_blocks n (earlier ++ b ∷ []) ≤ 1000000 → Some b ≡ next_body n earlier xs
   next-good b e s t h = follow-so b true e (rw (sym s, sym t, le-leb (total_blocks n (earlier ++ b ∷ [])) 1000000 h))
-
--- the bodies with one entry more
-pub bodies-more : (n i : ℕ) (rows : List row.Entry) (e : row.Entry) → i < length rows → bodies_in n (i + 1) (set rows i e) ≡ bodies_in n i rows ++ body_in n e ∷ []
-bodies-more n i rows e less = ap (map (body_in n)) (take_more_set rows i e less) ∙ map_push (body_in n) (take i rows) e
-
-pub length_front : (n i : ℕ) (rows : List row.Entry) → i ≤ length rows → length (bodies_in n i rows) ≡ i
-length_front n i rows h = length-map (take i rows) (body_in n) ∙ length-take-le i rows h
 
 module _ (n : ℕ) (earlier : List BodyOrder) (count i : ℕ) (xs : List ℕ) (less : i < count) where
   unfolded : bodies_from n earlier (count - i) (drop (56 * i) xs)
@@ -65,11 +53,10 @@ module _ (n : ℕ) (earlier : List BodyOrder) (count i : ℕ) (xs : List ℕ) (l
       sym (sym inv ∙ unfolded
       ∙ ap (λ (o : Option BodyOrder). go_on (Entry (length earlier + 1)) o (λ b. bodies_from n (earlier ++ b ∷ []) (count - (i + 1)) (drop (56 * (i + 1)) xs))) (sym some))
 
-pub walk_ends : (n : ℕ) (bs : List BodyOrder) (count i : ℕ) (xs : List ℕ) (whole : Result (List BodyOrder) ContentsFault) → count ≤ i
-    → bodies_from n bs (count - i) xs ≡ whole → Ok bs ≡ whole
-walk_ends n bs count i xs whole past inv =
-    ap (λ (k : ℕ). bodies_from n bs k xs) (let h : 0 ≡ count - i = omega arith in h) ∙ inv
-
--- the part of the entries at a place
-pub part_at : (i : ℕ) (xs : List ℕ) → take (56 * i + 56 - 56 * i) (drop (56 * i) xs) ≡ take 56 (drop (56 * i) xs)
-part_at i xs = ap (λ (k : ℕ). take k (drop (56 * i) xs)) (let h : 56 * i + 56 - 56 * i ≡ 56 = omega arith in h)
+-- the bytes of an entry by its place
+pub chunk-at : (k i : ℕ) (xs d : List ℕ) → i < k → get_or (first_chunks 56 k xs) i d ≡ take 56 (drop (56 * i) xs)
+chunk-at zero i xs d h = absurd (omega arith)
+chunk-at (suc k) zero xs d h = refl
+chunk-at (suc k) (suc i) xs d h =
+    let e : 56 + 56 * i ≡ 56 * suc i = omega arith in
+    chunk-at k i (drop 56 xs) d (omega arith) ∙ ap (take 56) (drop-drop (56 * i) 56 xs ∙ ap (λ (m : ℕ). drop m xs) e)

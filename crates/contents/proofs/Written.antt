@@ -1,5 +1,5 @@
 -- What is written of contents.
-use Rattle.std.proofs.Common.{◌≡◌, ℕ, ◌+◌, ◌*◌, ◌<◌, ◌≤◌, List, [], ◌∷◌, ◌++◌, length, get_or, take, drop, set, sym, refl, ap, ◌∙◌, ap₂, append_assoc, append-nil, arith, length-append, length-drop, length-set}
+use Rattle.std.proofs.Common.{◌≡◌, ℕ, ◌+◌, ◌*◌, ◌<◌, ◌≤◌, List, [], ◌∷◌, ◌++◌, length, get_or, take, drop, set, replicate, sym, ap, ◌∙◌, ap₂, append_assoc, append-nil, arith, length-append, length-drop}
 use borrow.Rule.Slice.PartMut.{put_mid}
 use Rattle.std.specs.List.{flat_map}
 use Rattle.std.proofs.lemmas.List.{flat_map_more, length-take-le, take-append-drop, take_more, drop_all, drop-drop}
@@ -24,23 +24,15 @@ put a k xs ys n h =
     let v = ap length b ∙ length-drop (a + k) xs in
     record { front = f; back = b; long = omega arith }
 
-four-set : (xs : List ℕ) (a b c d : ℕ) → 4 ≤ length xs → take 4 (set (set (set (set xs 0 a) 1 b) 2 c) 3 d) ≡ a ∷ b ∷ c ∷ d ∷ []
-four-set [] a b c d h = absurd (let f : ⊥ = omega arith in f)
-four-set (w ∷ []) a b c d h = absurd (let f : ⊥ = omega arith in f)
-four-set (w ∷ x ∷ []) a b c d h = absurd (let f : ⊥ = omega arith in f)
-four-set (w ∷ x ∷ y ∷ []) a b c d h = absurd (let f : ⊥ = omega arith in f)
-four-set (w ∷ x ∷ y ∷ z ∷ xs) a b c d h = refl
-
-pub fields-written : (xs : List ℕ) (a b : ℕ) (four start name : List ℕ) → length xs ≡ 56 → length four ≡ 4 → length start ≡ 16 → length name ≡ 32
-    → put_mid 24 32 (put_mid 8 16 (put_mid 4 4 (set (set (set (set xs 0 a) 1 b) 2 0) 3 0) four) start) name
+-- the fields of an entry, each written at its place over zeros
+pub fields-written : (a b : ℕ) (four start name : List ℕ) → length four ≡ 4 → length start ≡ 16 → length name ≡ 32
+    → put_mid 24 32 (put_mid 8 16 (put_mid 4 4 (set (set (replicate 56 0) 0 a) 1 b) four) start) name
     ≡ a ∷ b ∷ 0 ∷ 0 ∷ (four ++ (start ++ name))
-fields-written xs a b four start name n f s m =
-    let A = set (set (set (set xs 0 a) 1 b) 2 0) 3 0 in
-    let long_a : length A ≡ 56 =
-    length-set (set (set (set xs 0 a) 1 b) 2 0) 3 0 ∙ length-set (set (set xs 0 a) 1 b) 2 0 ∙ length-set (set xs 0 a) 1 b ∙ length-set xs 0 a ∙ n in
+fields-written a b four start name f s m =
+    let A = set (set (replicate 56 0) 0 a) 1 b in
     let p = put 4 4 A four f (omega arith) in
     let B = put_mid 4 4 A four in
-    let long_b : length B ≡ 56 = p.long ∙ long_a in
+    let long_b : length B ≡ 56 = p.long in
     let q = put 8 16 B start s (omega arith) in
     let C = put_mid 8 16 B start in
     let long_c : length C ≡ 56 = q.long ∙ long_b in
@@ -49,7 +41,7 @@ fields-written xs a b four start name n f s m =
     let long_d : length D ≡ 56 = r.long ∙ long_c in
     let none : drop 56 D ≡ [] = drop_all 56 D (omega arith) in
     sym (take-append-drop 56 D) ∙ ap₂ (λ (u v : List ℕ). u ++ v) r.front none ∙ append-nil (take 24 C ++ name)
-    ∙ ap (λ (u : List ℕ). u ++ name) (q.front ∙ ap (λ (u : List ℕ). u ++ start) (p.front ∙ ap (λ (u : List ℕ). u ++ four) (four-set xs a b 0 0 (omega arith))))
+    ∙ ap (λ (u : List ℕ). u ++ name) (q.front ∙ ap (λ (u : List ℕ). u ++ start) p.front)
     ∙ ap (λ (u : List ℕ). a ∷ b ∷ 0 ∷ 0 ∷ u) (append_assoc four start name)
 
 -- one entry more is written behind those of the first i rows

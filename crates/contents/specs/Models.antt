@@ -9,12 +9,12 @@ use Rattle.contents_format.specs.BlockLengths.{bytes_of as length_of}
 use Rattle.contents_format.specs.Layout.{contents_of}
 use Rattle.contents_format.specs.declared.BlockLength.{BlockLength}
 use Rattle.contents_format.specs.Reading.{SetOrder, said_of}
-use Rattle.contents.specs.Entries.{bodies_in}
+use Rattle.contents.specs.Entries.{bodies_in, entries_in}
 use Rattle.contents.specs.declared.Contents.{Contents}
 
 -- the order, and the block length of the tag cipher
 abbrev pub said_by : Contents → SetOrder
-said_by c = said_of c.cipher c.tag_block (bodies_in (block_length c.cipher) c.count c.entries)
+said_by c = said_of c.cipher c.tag_block (bodies_in (block_length c.cipher) (entries_in c.entries))
 
 -- what a sheet orders, with a work area of that many bytes and a tag cipher of that block length
 abbrev pub ordered_by : ℕ → List ℕ → BlockLength → Result SetOrder SheetFault

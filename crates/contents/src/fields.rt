@@ -1,20 +1,15 @@
 // The fields of an entry as bytes.
 ghost use Rattle.std.specs.Prelude.{◌≡◌, ℕ, ◌≤◌, true, length, IfSome};
 ghost use Rattle.std.specs.Option.{option_map};
-ghost use Rattle.sheet_format.specs.Lines.{all_graphic, is_name};
 ghost use Rattle.sheet_format.specs.Sizes.{block_length};
 ghost use Rattle.contents_format.specs.Reading.{all_zero, entry_read, fields_hold, mode_numbered};
 ghost use Rattle.contents.specs.Entries.{body_in, is_held};
 
 use super::entry::Entry;
 use super::parts::start_length;
-use sheet_format::{CipherKind, Mode};
-
-const MAX_LENGTH: u32 = 1_048_576;
+use sheet_format::{CipherKind, MAX_LENGTH, MAX_NAME, Mode, is_name};
 
 const START_FIELD: usize = 16;
-
-const NAME_FIELD: usize = 32;
 
 fn read_mode(number: u8) -> Option<Mode>
     ensures { result ≡ mode_numbered number }
@@ -29,30 +24,7 @@ fn read_mode(number: u8) -> Option<Mode>
 fn all_zero(bytes: &[u8]) -> bool
     ensures { result ≡ all_zero bytes.now }
 {
-    for b in bytes {
-        if *b != 0 {
-            return false;
-        }
-    }
-    true
-}
-
-fn all_graphic(text: &[u8]) -> bool
-    ensures { result ≡ all_graphic text.now }
-{
-    for b in text {
-        if !matches!(*b, 33..=126) {
-            return false;
-        }
-    }
-    true
-}
-
-// 1 to 32 bytes from 33 to 126.
-fn is_name(text: &[u8]) -> bool
-    ensures { result ≡ is_name text.now }
-{
-    !text.is_empty() && text.len() <= NAME_FIELD && all_graphic(text)
+    bytes.iter().all(|b| *b == 0)
 }
 
 // Whether the name field is a name of that length, and START and name are filled up with zeros.
@@ -67,18 +39,17 @@ fn fields_hold(start: &[u8], start_length: usize, name: &[u8], name_length: usiz
 }
 
 // What the 56 bytes of an entry say, `None` where no body has them for its entry.
-pub fn read_entry(cipher: CipherKind, bytes: &[u8]) -> Option<Entry>
-    requires { length bytes.now ≡ 56 }
+pub fn read_entry(cipher: CipherKind, bytes: &[u8; 56]) -> Option<Entry>
     ensures value { option_map (body_in (block_length cipher)) result ≡ entry_read (block_length cipher) bytes.now }
     ensures held { IfSome result (λ e. is_held (block_length cipher) e ≡ true) }
 {
-    let [number, name_length, y, z, a, b, c, d, fields @ ..] = bytes else {
+    let [number, name_length, y, z, a, b, c, d, fields @ ..] = bytes.as_slice() else {
         return None;
     };
     let mode = read_mode(*number)?;
     let length = u32::from_be_bytes([*a, *b, *c, *d]);
-    let used = *name_length as usize;
-    if *y != 0 || *z != 0 || length > MAX_LENGTH || used > NAME_FIELD {
+    let used = usize::from(*name_length);
+    if *y != 0 || *z != 0 || length > MAX_LENGTH || used > MAX_NAME {
         return None;
     }
     let (start_field, name_field) = fields.split_at(START_FIELD);
@@ -87,7 +58,7 @@ pub fn read_entry(cipher: CipherKind, bytes: &[u8]) -> Option<Entry>
     }
     let mut start = [0u8; START_FIELD];
     start.copy_from_slice(start_field);
-    let mut name = [0u8; NAME_FIELD];
+    let mut name = [0u8; MAX_NAME];
     name.copy_from_slice(name_field);
     Some(Entry {
         mode,

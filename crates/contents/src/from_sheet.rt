@@ -1,6 +1,6 @@
 // Contents, made from a sheet that passes.
-ghost use Rattle.std.specs.Prelude.{◌≡◌, ℕ, ◌≤◌, true, map, length, take, IfOk};
-ghost use Rattle.hex_digits.specs.Hex.{hex_bytes};
+ghost use Rattle.std.specs.Prelude.{◌≡◌, ℕ, ◌/◌, ◌≤◌, true, map, length, take, IfOk};
+ghost use Rattle.hex_digits.specs.Hex.{hex_bytes, is_hex};
 ghost use Rattle.sheet.specs.Checking.{after_check};
 ghost use Rattle.sheet_format.specs.Lines.{lines_of};
 ghost use Rattle.sheet_format.specs.Orders.{bodies_in as bodies_named, map_ok, ordered};
@@ -9,13 +9,14 @@ ghost use Rattle.sheet_laws.specs.Passes.{Passes};
 ghost use Rattle.sheet_lines.specs.Models.{body_model};
 ghost use Rattle.contents_format.specs.Layout.{filled};
 ghost use Rattle.contents_laws.specs.BodyLines.{FitLine, FitLines};
-ghost use Rattle.contents.specs.Entries.{are_held, bodies_in, body_in, is_held};
+ghost use Rattle.contents.specs.Entries.{are_held, bodies_in, body_in, entries_in, is_held};
 ghost use Rattle.contents.specs.Models.{ordered_by, said_by};
 
 use super::Contents;
-use super::entry::{Entry, no_entries};
+use super::entries::Entries;
+use super::entry::Entry;
 use contents_format::BlockLength;
-use hex_digits::hex_digit;
+use hex_digits::read_hex;
 use sheet::check;
 use sheet_format::{CipherKind, SheetFault};
 use sheet_lines::line::{BodyLine, LineKind};
@@ -23,15 +24,12 @@ use sheet_lines::reader::Lines;
 
 // The bytes that digits mean, filled up with zeros.
 fn start_field(digits: &[u8]) -> [u8; 16]
-    requires { length digits.now ≤ 32 }
+    requires room { length digits.now ≤ 32 }
+    requires hex { is_hex (length digits.now / 2) digits.now ≡ true }
     ensures { result ≡ filled 16 (hex_bytes digits.now) }
 {
     let mut field = [0u8; 16];
-    for i in 0..digits.len() / 2 {
-        let high = hex_digit(digits[2 * i]).unwrap_or(0);
-        let low = hex_digit(digits[2 * i + 1]).unwrap_or(0);
-        field[i] = 16 * high + low;
-    }
+    read_hex(digits, &mut field[..digits.len() / 2]).unwrap();
     field
 }
 
@@ -41,9 +39,7 @@ fn name_field(name: &[u8]) -> [u8; 32]
     ensures { result ≡ filled 32 name.now }
 {
     let mut field = [0u8; 32];
-    for (i, b) in name.iter().enumerate() {
-        field[i] = *b;
-    }
+    field[..name.len()].copy_from_slice(name);
     field
 }
 
@@ -65,36 +61,20 @@ fn entry_of(cipher: CipherKind, body: BodyLine<'_>) -> Entry
 }
 
 // The entries of the bodies that a sheet names.
-fn entries_of(cipher: CipherKind, sheet: &[u8]) -> [Entry; 32]
+fn entries_of(cipher: CipherKind, sheet: &[u8]) -> Entries
     requires { FitLines (block_length cipher) (bodies_named (lines_of sheet.now)) }
-    ensures value { bodies_in (block_length cipher) (length (bodies_named (lines_of sheet.now))) result ≡ map ordered (bodies_named (lines_of sheet.now)) }
-    ensures held { are_held (block_length cipher) (take (length (bodies_named (lines_of sheet.now))) result) ≡ true }
+    ensures value { bodies_in (block_length cipher) (entries_in result) ≡ map ordered (bodies_named (lines_of sheet.now)) }
+    ensures held { are_held (block_length cipher) (entries_in result) ≡ true }
 {
-    let mut rows = no_entries();
-    let mut count = 0;
-    let mut lines = Lines::new(sheet);
-    while let Some(item) = lines.next_line() {
-        let Ok(line) = item else {
-            continue;
-        };
-        if let LineKind::Body(body) = line.kind {
-            let entry = entry_of(cipher, body);
-            rows[count] = entry;
-            count += 1;
+    let mut entries = Entries::new();
+    for item in Lines::new(sheet) {
+        if let Ok(line) = item
+            && let LineKind::Body(body) = line.kind
+        {
+            entries.push(entry_of(cipher, body));
         }
     }
-    rows
-}
-
-// The cipher whose block length is n.
-fn cipher_of(n: usize) -> CipherKind
-    ensures { (c : CipherKind) → n ≡ block_length c → result ≡ c }
-{
-    if n == 16 {
-        CipherKind::Kuznyechik
-    } else {
-        CipherKind::Magma
-    }
+    entries
 }
 
 impl Contents {
@@ -110,12 +90,11 @@ impl Contents {
         ensures work { work.new ≡ after_check work.old }
     {
         let checked = check(sheet, work)?;
-        let cipher = cipher_of(checked.block_length);
+        let cipher = CipherKind::try_from(checked.block_length).unwrap();
         let entries = entries_of(cipher, sheet);
         Ok(Contents {
             cipher,
             tag_block,
-            count: checked.bodies,
             entries,
         })
     }

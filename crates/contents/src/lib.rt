@@ -2,11 +2,13 @@
 #![tactic(auto)]
 
 ghost use Rattle.std.specs.Prelude.{◌≡◌, true};
-ghost use Rattle.contents.specs.Entries.{is_contents};
+ghost use Rattle.contents.specs.Entries.{entries_in, is_contents};
 
 use contents_format::BlockLength;
+use entries::Entries;
 use sheet_format::CipherKind;
 
+mod entries;
 mod entry;
 mod fields;
 mod from_sheet;
@@ -23,7 +25,6 @@ pub use reading::read_contents;
 pub struct Contents {
     cipher: CipherKind,
     tag_block: BlockLength,
-    count: usize,
-    entries: [Entry; 32],
-    ghost sound: { is_contents cipher count entries ≡ true },
+    entries: Entries,
+    ghost sound: { is_contents cipher (entries_in entries) ≡ true },
 }

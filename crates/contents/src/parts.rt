@@ -1,13 +1,11 @@
-// The parts of an entry and of contents.
+// The parts of contents.
 ghost use Rattle.std.specs.Prelude.{◌≡◌, ℕ, ◌≤◌, length};
 ghost use Rattle.sheet_format.specs.Sizes.{block_length};
 ghost use Rattle.contents_format.specs.BlockLengths.{bytes_of as length_of};
 ghost use Rattle.contents_format.specs.Layout.{start_length};
-ghost use Rattle.contents.specs.Entries.{body_in};
 ghost use Rattle.contents.specs.Models.{said_by};
 
 use super::Contents;
-use super::entry::Entry;
 use contents_format::BlockLength;
 use sheet_format::{CipherKind, Mode};
 
@@ -17,23 +15,6 @@ pub fn start_length(mode: Mode, cipher: CipherKind) -> usize
     ensures room { result ≤ 16 }
 {
     mode.start_digits(cipher) / 2
-}
-
-impl Entry {
-    // The name.
-    pub fn name<'a>(&'a self) -> &'a [u8]
-        ensures { (n : ℕ) → result.now ≡ (body_in n self.now).name }
-    {
-        let end = (self.name_length as usize).min(32);
-        &self.name[..end]
-    }
-
-    // START, under that cipher.
-    pub fn start<'a>(&'a self, cipher: CipherKind) -> &'a [u8]
-        ensures { result.now ≡ (body_in (block_length cipher) self.now).start }
-    {
-        &self.start[..start_length(self.mode, cipher)]
-    }
 }
 
 impl Contents {
@@ -57,6 +38,6 @@ impl Contents {
         ensures some { 1 ≤ result }
         ensures few { result ≤ 32 }
     {
-        self.count
+        self.entries.as_slice().len()
     }
 }

@@ -1,11 +1,11 @@
 -- What contents say, or the fault for which they are refused.
-use Rattle.std.specs.Prelude.{ℕ, zero, suc, ◌+◌, ◌*◌, Bool, true, false, cond, not, ◌&&◌, ◌||◌, List, [], ◌∷◌, ◌++◌, length, take, drop, Some, None, Ok, Err, Option, Result, ◌==◌, nat_le, slice_index}
+use Rattle.std.specs.Prelude.{ℕ, zero, suc, ◌+◌, ◌*◌, Bool, cond, not, ◌&&◌, List, [], ◌∷◌, ◌++◌, length, take, drop, Some, None, Ok, Err, Option, Result, ◌==◌, nat_le, slice_index}
+use Rattle.std.specs.List.{list_all, list_any}
 use Rattle.std.specs.Str.{bytes_eq}
 use Rattle.sheet_format.specs.Lines.{bind, given, is_name}
 use Rattle.sheet_format.specs.Orders.{BodyOrder, Order, is_ctr, map_ok, total_blocks}
-use Rattle.sheet_format.specs.Sizes.{block_length}
+use Rattle.sheet_format.specs.Sizes.{block_length, cipher_with}
 use Rattle.sheet_format.specs.declared.CipherKind.{CipherKind}
-use Rattle.sheet_format.specs.declared.CipherKind.TheVariants.{Kuznyechik, Magma}
 use Rattle.sheet_format.specs.declared.Mode.{Mode}
 use Rattle.sheet_format.specs.declared.Mode.TheVariants.{Ctr, Cbc}
 use Rattle.contents_format.specs.BlockLengths.{bytes_of, with_bytes}
@@ -19,16 +19,11 @@ pub record SetOrder : Type 0 where
   pub order : Order
   pub tag : ℕ
 
--- the cipher that has a block length
-abbrev pub cipher_with : ℕ → Option CipherKind
-cipher_with n = cond (n == 8) (Some Magma) (cond (n == 16) (Some Kuznyechik) None)
-
 abbrev pub mode_numbered : ℕ → Option Mode
 mode_numbered x = cond (x == 1) (Some Ctr) (cond (x == 2) (Some Cbc) None)
 
 abbrev pub all_zero : List ℕ → Bool
-all_zero [] = true
-all_zero (x ∷ xs) = x == 0 && all_zero xs
+all_zero = list_all (λ x. x == 0)
 
 -- the fields of an entry: L in bytes 4 to 7, START from byte 8, the name from byte 24
 abbrev pub length_field : List ℕ → ℕ
@@ -64,12 +59,10 @@ abbrev pub entry_read : ℕ → List ℕ → Option BodyOrder
 entry_read n e = bind (mode_numbered (slice_index e 0)) (λ mode. given (is_entry n mode e) (Some (body_at n mode e)))
 
 abbrev pub name_in : List ℕ → List BodyOrder → Bool
-name_in name [] = false
-name_in name (b ∷ bs) = bytes_eq b.name name || name_in name bs
+name_in name = list_any (λ b. bytes_eq b.name name)
 
 abbrev pub ctr_start_in : List ℕ → List BodyOrder → Bool
-ctr_start_in start [] = false
-ctr_start_in start (b ∷ bs) = (is_ctr b.mode && bytes_eq b.start start) || ctr_start_in start bs
+ctr_start_in start = list_any (λ b. is_ctr b.mode && bytes_eq b.start start)
 
 -- a body may follow the earlier ones: another name, in ctr another START, not too many blocks together
 abbrev pub may_follow : ℕ → List BodyOrder → BodyOrder → Bool

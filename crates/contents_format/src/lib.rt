@@ -2,10 +2,13 @@
 #![tactic(auto)]
 
 ghost use Rattle.std.specs.Prelude.{◌≡◌, ℕ, ◌⊎◌};
+ghost use Rattle.std.specs.Option.{ok_or};
+ghost use Rattle.contents_format.specs.declared.ContentsFault.TheVariants.{Header};
 ghost use Rattle.contents_format.specs.BlockLengths.{bytes_of, nearest_to, with_bytes};
 ghost use Rattle.contents_format.specs.Faults.{code_of};
 
 use fault::FaultCode;
+use sheet_format::NoCipher;
 
 // The block length of a cipher: 8 or 16 bytes.
 #[derive(Clone, Copy, PartialEq, Eq, Debug)]
@@ -25,17 +28,6 @@ impl BlockLength {
         }
     }
 
-    // `None` where it is no block length.
-    pub fn from_bytes(bytes: usize) -> Option<Self>
-        ensures { result ≡ with_bytes bytes }
-    {
-        match bytes {
-            8 => Some(BlockLength::Eight),
-            16 => Some(BlockLength::Sixteen),
-            _ => None,
-        }
-    }
-
     // Of a block cipher that has this block length, which its law says is 8 or 16: for these two nothing is lost.
     pub fn of_cipher(bytes: usize) -> Self
         ensures value { result ≡ nearest_to bytes }
@@ -45,6 +37,25 @@ impl BlockLength {
             BlockLength::Eight
         } else {
             BlockLength::Sixteen
+        }
+    }
+}
+
+// That a number is no block length.
+#[derive(Clone, Copy, PartialEq, Eq, Debug)]
+pub struct NoBlockLength;
+
+// The block length of so many bytes.
+impl TryFrom<usize> for BlockLength {
+    type Error = NoBlockLength;
+
+    ghost try_from_gives = { λ n r. r ≡ ok_or (with_bytes n) (record {}) };
+
+    fn try_from(bytes: usize) -> Result<BlockLength, NoBlockLength> {
+        match bytes {
+            8 => Ok(BlockLength::Eight),
+            16 => Ok(BlockLength::Sixteen),
+            _ => Err(NoBlockLength),
         }
     }
 }
@@ -72,5 +83,22 @@ impl ContentsFault {
             number: 14,
             place,
         }
+    }
+}
+
+// A header with a length that is none of a cipher, or none of a tag.
+impl From<NoCipher> for ContentsFault {
+    ghost from_gives = { λ _ r. r ≡ Header };
+
+    fn from(_fault: NoCipher) -> ContentsFault {
+        ContentsFault::Header
+    }
+}
+
+impl From<NoBlockLength> for ContentsFault {
+    ghost from_gives = { λ _ r. r ≡ Header };
+
+    fn from(_fault: NoBlockLength) -> ContentsFault {
+        ContentsFault::Header
     }
 }

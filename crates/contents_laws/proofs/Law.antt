@@ -4,13 +4,13 @@ use Rattle.std.specs.List.{flat_map, AllByRecursion}
 use Rattle.std.proofs.lemmas.List.{length-take-le, take-append-drop, take-take, take_at, take_all, drop_at}
 use Rattle.std.proofs.lemmas.Bool.{cases_Bool, cases_order, and_parts, eqb-true, eqb-false, eq-eqb, leb-true, le-leb}
 use Rattle.sheet_format.specs.Orders.{BodyOrder, map_ok}
-use Rattle.sheet_format.specs.Sizes.{block_length}
+use Rattle.sheet_format.specs.Sizes.{cipher_with, block_length}
 use Rattle.sheet_format.specs.declared.CipherKind.{CipherKind}
 use Rattle.sheet_format.specs.declared.CipherKind.TheVariants.{Kuznyechik, Magma}
 use Rattle.sheet_laws.proofs.Clash.{clash}
 use Rattle.contents_format.specs.BlockLengths.{bytes_of, with_bytes}
 use Rattle.contents_format.specs.Layout.{entry_of, contents_of}
-use Rattle.contents_format.specs.Reading.{SetOrder, cipher_with, bodies_from, is_frame, said_of, contents_read}
+use Rattle.contents_format.specs.Reading.{SetOrder, bodies_from, is_frame, said_of, contents_read}
 use Rattle.contents_format.specs.declared.BlockLength.{BlockLength}
 use Rattle.contents_format.specs.declared.BlockLength.TheVariants.{Eight, Sixteen}
 use Rattle.contents_format.specs.declared.ContentsFault.{ContentsFault}

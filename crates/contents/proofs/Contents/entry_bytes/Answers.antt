@@ -1,13 +1,13 @@
-use Rattle.std.proofs.Common.{ℕ, List, Some, ap, ◌∙◌, arith}
-use Rattle.std.specs.Option.{option_map}
-use Rattle.contents_format.specs.Layout.{entry_of}
-use Rattle.contents.proofs.OfContents.{body-found, body-past, entry-same}
+use Rattle.std.proofs.Common.{List, Some, slice_get, sym, ap, ◌∙◌}
+use Rattle.std.proofs.lemmas.Option.{slice_get-get_or}
+use Rattle.contents.specs.declared.entry.Entry.{Entry}
+use Rattle.contents.proofs.OfContents.{bytes-found}
 use Rattle.contents.proofs.Contents.entry_bytes.Goals as goal
-
-pub returns-then-number-self : goal.returns-then-number-self
-returns-then-number-self c = ap (option_map entry_of) (body-past c.args.self.now c.args.number (omega arith))
 
 pub returns : goal.returns
 returns c =
-    ap (λ (xs : List ℕ). Some xs) (c.fill_entry.ensures ∙ entry-same c.args.self.now c.args.number _ (omega arith))
-    ∙ ap (option_map entry_of) (body-found c.args.self.now c.args.number _ (omega arith))
+    let found = c.in_ok-entry.ensures.lookup in
+    let entry = c.in_ok-entry.entry.now in
+    bytes-found c.args.self.now c.args.number entry c.bytes.result c.bytes.ensures
+    (ap (λ (e : Entry). Some e) found.1 ∙ sym (slice_get-get_or c.as_slice.result.now c.args.number entry found.3.0)
+    ∙ ap (λ (es : List Entry). slice_get es c.args.number) c.as_slice.ensures)

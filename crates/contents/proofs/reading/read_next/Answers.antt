@@ -1,62 +1,45 @@
 use Rattle.std.proofs.Common.{ℕ, ◌<◌, ◌≤◌, List, [], ◌∷◌, ◌++◌, ap, ◌∙◌, arith}
-use Rattle.sheet_format.specs.Orders.{total_blocks}
+use Rattle.std.specs.List.{list_any}
+use Rattle.std.specs.Str.{bytes_eq}
+use Rattle.sheet_format.specs.Orders.{BodyOrder, total_blocks}
 use Rattle.sheet_format.specs.Sizes.{block_length}
-use Rattle.contents_format.specs.Reading.{name_in}
 use Rattle.contents_laws.proofs.Sound.{blocks-push}
-use Rattle.contents.specs.Entries.{body_in, bodies_in}
-use Rattle.contents.proofs.Next.{next-named, next-started, next-many, next-good}
+use Rattle.contents.specs.Entries.{body_in, bodies_in, name_of}
+use Rattle.contents.specs.declared.entry.Entry.{Entry}
+use Rattle.contents.proofs.Next.{next-named, next-many, next-good}
+use Rattle.contents.proofs.Searches.{any-map}
 use Rattle.contents.proofs.reading.read_next.Goals as goal
 
-pub returns-then-name_taken : goal.returns-then-name_taken
-returns-then-name_taken c =
+pub returns-then-name_taken-clause-value : goal.returns-then-name_taken-clause-value
+returns-then-name_taken-clause-value c =
     let n = block_length c.args.cipher in
-    let earlier = bodies_in n c.args.count c.args.rows.now in
     let entry = c.in_ok-entry.entry in
-    record {
-      value = next-named n earlier c.args.bytes.now (body_in n entry) c.in_ok-entry.ensures.value
-          (c.if-name_taken.ensures n ∙ ap (λ (xs : List ℕ). name_in xs earlier) (c.name.ensures n));
-      held = tt;
-      total = tt;
-      limit = tt;
-    }
+    next-named n (bodies_in n c.args.earlier.now) c.args.bytes.now (body_in n entry) c.in_ok-entry.ensures.value
+    (c.if-name_taken.ensures ∙ ap (λ (xs : List ℕ). list_any (λ (e : Entry). bytes_eq (name_of e) xs) c.args.earlier.now) c.name.ensures
+    ∙ any-map (body_in n) (λ (b : BodyOrder). bytes_eq b.name (name_of entry)) c.args.earlier.now)
 
-pub returns-then-shares_start : goal.returns-then-shares_start
-returns-then-shares_start c =
+pub returns-then-more-blocks-clause-value : goal.returns-then-more-blocks-clause-value
+returns-then-more-blocks-clause-value c =
     let n = block_length c.args.cipher in
-    let earlier = bodies_in n c.args.count c.args.rows.now in
-    let entry = c.in_ok-entry.entry in
-    record {
-      value = next-started n earlier c.args.bytes.now (body_in n entry) c.in_ok-entry.ensures.value c.if-shares_start.ensures;
-      held = tt;
-      total = tt;
-      limit = tt;
-    }
-
-pub returns-then-more-blocks : goal.returns-then-more-blocks
-returns-then-more-blocks c =
-    let n = block_length c.args.cipher in
-    let earlier = bodies_in n c.args.count c.args.rows.now in
+    let earlier = bodies_in n c.args.earlier.now in
     let entry = c.in_ok-entry.entry in
     let sum = blocks-push n earlier (body_in n entry) in
     let many : 1000000 < total_blocks n (earlier ++ body_in n entry ∷ []) = omega (arith, c.requires.blocks, c.blocks-more.ensures) in
-    record {
-      value = next-many n earlier c.args.bytes.now (body_in n entry) c.in_ok-entry.ensures.value many;
-      held = tt;
-      total = tt;
-      limit = tt;
-    }
+    next-many n earlier c.args.bytes.now (body_in n entry) c.in_ok-entry.ensures.value many
 
-pub returns : goal.returns
-returns c =
+pub returns-clause-value : goal.returns-clause-value
+returns-clause-value c =
     let n = block_length c.args.cipher in
-    let earlier = bodies_in n c.args.count c.args.rows.now in
+    let earlier = bodies_in n c.args.earlier.now in
     let entry = c.in_ok-entry.entry in
     let sum = blocks-push n earlier (body_in n entry) in
     let few : total_blocks n (earlier ++ body_in n entry ∷ []) ≤ 1000000 = omega (arith, c.requires.blocks, c.blocks-more.ensures) in
-    record {
-      value = next-good n earlier c.args.bytes.now (body_in n entry) c.in_ok-entry.ensures.value
-          (c.if-name_taken.ensures n ∙ ap (λ (xs : List ℕ). name_in xs earlier) (c.name.ensures n)) c.if-shares_start.ensures few;
-      held = c.in_ok-entry.ensures.held;
-      total = omega (arith, c.requires.blocks, c.blocks-more.ensures);
-      limit = omega (arith, c.requires.blocks, c.blocks-more.ensures);
-    }
+    next-good n earlier c.args.bytes.now (body_in n entry) c.in_ok-entry.ensures.value
+    (c.if-name_taken.ensures ∙ ap (λ (xs : List ℕ). list_any (λ (e : Entry). bytes_eq (name_of e) xs) c.args.earlier.now) c.name.ensures
+    ∙ any-map (body_in n) (λ (b : BodyOrder). bytes_eq b.name (name_of entry)) c.args.earlier.now) c.if-shares_start.ensures few
+
+pub returns-clause-total : goal.returns-clause-total
+returns-clause-total c =
+    let n = block_length c.args.cipher in
+    let sum = blocks-push n (bodies_in n c.args.earlier.now) (body_in n c.in_ok-entry.entry) in
+    omega (arith, c.requires.blocks, c.blocks-more.ensures)
