@@ -1,19 +1,16 @@
--- The bodies of a sheet: those that an accepted sheet orders, and those that the reader still has to give.
-use Rattle.std.proofs.Common.{◌≡◌, ℕ, ◌+◌, ◌<◌, List, [], ◌∷◌, ◌++◌, map, length, Some, None, Ok, Err, Option, Result, sym, refl, ap, ◌∙◌, append_assoc, append-nil, arith}
+-- What an accepted sheet orders: its cipher and its bodies.
+use Rattle.std.proofs.Common.{◌≡◌, ℕ, ◌+◌, List, [], ◌∷◌, ◌++◌, map, length, Some, None, Ok, Err, Option, Result, sym, refl, ap, ◌∙◌, append_assoc, append-nil}
 use Rattle.std.specs.Option.{ok_or}
 use Rattle.sheet_format.proofs.Ciphers.{cipher-known}
-use Rattle.sheet_format.specs.Lines.{Body, Form, Line, lines_of}
-use Rattle.sheet_format.specs.Orders.{BodyOrder, Order, ordered, body_named, bodies_in, ciphers_in, line_fault, unless, order_at_end, order_from, bad_line, byte_fault, length_fault, order_of, summary, map_ok}
+use Rattle.sheet_format.specs.Lines.{Body, Line, lines_of}
+use Rattle.sheet_format.specs.Orders.{BodyOrder, Order, ordered, bodies_in, ciphers_in, line_fault, unless, order_at_end, order_from, bad_line, byte_fault, length_fault, order_of, summary, map_ok}
 use Rattle.sheet_format.specs.Sizes.{block_length, cipher_with}
 use Rattle.sheet_format.specs.declared.Checked.{Checked}
 use Rattle.sheet_format.specs.declared.CipherKind.{CipherKind}
 use Rattle.sheet_format.specs.declared.NoCipher.{NoCipher}
 use Rattle.sheet_format.specs.declared.SheetFault.{SheetFault}
 use Rattle.sheet_laws.proofs.Clash.{clash}
-use Rattle.sheet_lines.specs.Models.{form_model, next_of, step_of, tail_of}
-use Rattle.sheet_lines.specs.declared.line.BodyLine.{BodyLine}
-use Rattle.sheet_lines.specs.declared.line.LineKind.{LineKind}
-use Rattle.listing.specs.Listing.{body_text, bodies_text, cipher_text, total_text, order_text, answer_text, listing_of}
+use Rattle.listing.specs.Listing.{bodies_text, cipher_text, total_text, order_text, answer_text, listing_of}
 
 unless-ok : (f : Option SheetFault) (r : Result Order SheetFault) (o : Order) → unless f r ≡ Ok o → r ≡ Ok o
 unless-ok None r o e = e
@@ -43,10 +40,6 @@ pub answer-order : (r : Result Order SheetFault) (checked : Checked) → map_ok 
 answer-order (Ok o) checked e = (o, refl, cc)
 answer-order (Err f) checked e = clash (cc)
 
-pub answer-fault : (r : Result Order SheetFault) (f : SheetFault) → map_ok summary r ≡ Err f → r ≡ Err f
-answer-fault (Ok o) f e = clash (cc)
-answer-fault (Err g) f e = let q : g ≡ f = cc in ap (λ (x : SheetFault). Err x) q
-
 parts-text : (o : Order) (checked : Checked) (kind : CipherKind) (bs : List BodyOrder) (before : List ℕ)
     → summary o ≡ checked → kind ≡ o.cipher → o.bodies ≡ bs
     → before ++ cipher_text kind ++ bodies_text (block_length kind) 1 bs ++ total_text checked.bodies checked.blocks ≡ before ++ order_text o
@@ -69,34 +62,3 @@ pub kind-known : (n : ℕ) (kind c : CipherKind) (r : Result CipherKind NoCipher
 kind-known n kind c r e k h =
     let p : cipher_with n ≡ Some c = ap cipher_with h ∙ cipher-known c in
     let q : r ≡ Ok c = e ∙ ap (λ (o : Option CipherKind). ok_or o (record {})) p in cc
-
--- What the reader's next line says of the lines that are left; k lines were read.
-module _ (k : ℕ) where
-  pub next-named : (ls : List Line) (i : ℕ) (f : Form) → Some (Ok (i, f)) ≡ next_of k ls → bodies_in ls ≡ body_named (Some f) ++ bodies_in (tail_of ls)
-  next-named [] i f e = clash (cc)
-  next-named (None ∷ ls) i f e = clash (cc)
-  next-named (Some g ∷ ls) i f e =
-      let q : (i, f) ≡ (k + 1, g) = cc in ap (λ (p : ℕ × Form). body_named (Some p.1) ++ bodies_in ls) (sym q)
-
-  pub next-less : (ls : List Line) (item : Result (ℕ × Form) SheetFault) → Some item ≡ next_of k ls
-      → (length (tail_of ls) < length ls) × (step_of k ls ≡ k + 1)
-  next-less [] item e = clash (cc)
-  next-less (None ∷ ls) item e = (omega arith, refl)
-  next-less (Some f ∷ ls) item e = (omega arith, refl)
-
-pub none_named : (kind : LineKind) → ((b : BodyLine) → kind ≡ LineKind.Body b → ⊥) → body_named (Some (form_model kind)) ≡ []
-none_named LineKind.Blank h = refl
-none_named LineKind.Comment h = refl
-none_named (LineKind.Cipher c) h = refl
-none_named (LineKind.Body b) h = absurd (h b refl)
-
--- one body more is written: n is the block length, k bodies stood before it
-pub body-written : (n k : ℕ) (b : Body) (bs rest : List Body) (before after whole : List ℕ) → rest ≡ b ∷ bs
-    → after ≡ before ++ body_text n (k + 1) (ordered b) → before ++ bodies_text n (k + 1) (map ordered rest) ≡ whole
-    → after ++ bodies_text n (k + 1 + 1) (map ordered bs) ≡ whole
-body-written n k b bs rest before after whole first added inv =
-    let others : List ℕ = bodies_text n (k + 1 + 1) (map ordered bs) in
-    ap (λ (xs : List ℕ). xs ++ others) added
-    ∙ append_assoc before (body_text n (k + 1) (ordered b)) others
-    ∙ ap (λ (xs : List Body). before ++ bodies_text n (k + 1) (map ordered xs)) (sym first)
-    ∙ inv

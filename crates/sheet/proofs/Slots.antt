@@ -1,10 +1,10 @@
--- Slots of the work area: written, and left alone by a write to another.
-use Rattle.std.proofs.Common.{◌≡◌, ℕ, ◌+◌, ◌-◌, ◌*◌, ◌<◌, ◌≤◌, min, ◌≢◌, List, ◌++◌, length, get_or, take, drop, set, sym, ap, ◌∙◌, arith, length-append, length-drop, length-set, length-take}
+-- A slot of the work area, filled.
+use Rattle.std.proofs.Common.{◌≡◌, ℕ, ◌+◌, ◌-◌, ◌<◌, ◌≤◌, min, ◌≢◌, List, ◌++◌, length, get_or, take, drop, set, sym, ap, ◌∙◌, arith, length-append, length-drop, length-set, length-take}
 use borrow.Rule.Slice.PartMut.{put_mid}
 use Rattle.std.proofs.lemmas.List.{get_or_append_left, get_or-take, get_or-set_same, get_or-set_other, length-take-le}
 use Rattle.std.proofs.lemmas.Slice.{between_is, between-put_mid, take-put_mid_below}
 use Rattle.std.specs.List.{between}
-use Rattle.sheet.specs.Kept.{slot_at, name_kept, start_kept}
+use Rattle.sheet.specs.Slots.{name_kept, start_kept}
 
 module _ (a k : ℕ) (xs ys : List ℕ) (a≤ : a ≤ length xs) where
   -- a write from place a on changes nothing before it
@@ -76,19 +76,3 @@ module _ (s start name : List ℕ) (whole : length s ≡ 56) (few : length start
       ∙ ap (λ (l : ℕ). between 8 l (filled s start name)) e
       ∙ between-before 24 (24 + length name - 24) started name (omega arith) 8 (8 + length start) (omega arith)
       ∙ between-put_mid 8 (8 + length start - 8) sized start (8 + length start) (omega arith) (omega arith)
-
--- a slot is a part of the area
-pub slot-part : (area : List ℕ) (i : ℕ) → slot_at area i ≡ between (56 * i) (56 * i + 56) area
-slot-part area i = let e : 56 ≡ 56 * i + 56 - 56 * i = omega arith in ap (λ (n : ℕ). take n (drop (56 * i) area)) e
-
-module _ (area slot : List ℕ) (count : ℕ) (room : 56 * count + 56 ≤ length area) (whole : length slot ≡ 56) where
-  pub slot-written : slot_at (put_mid (56 * count) (56 * count + 56 - 56 * count) area slot) count ≡ slot
-  slot-written =
-      slot-part (put_mid (56 * count) (56 * count + 56 - 56 * count) area slot) count
-      ∙ between-put_mid (56 * count) (56 * count + 56 - 56 * count) area slot (56 * count + 56) (omega arith) (omega arith)
-
-  pub slot-left : (i : ℕ) → i < count → slot_at (put_mid (56 * count) (56 * count + 56 - 56 * count) area slot) i ≡ slot_at area i
-  slot-left i h =
-      slot-part (put_mid (56 * count) (56 * count + 56 - 56 * count) area slot) i
-      ∙ between-before (56 * count) (56 * count + 56 - 56 * count) area slot (omega arith) (56 * i) (56 * i + 56) (omega arith)
-      ∙ sym (slot-part area i)

@@ -1,6 +1,6 @@
 -- One line more: what it does to the state of `check`.
-use Rattle.std.proofs.Common.{◌≡◌, ℕ, ◌+◌, ◌-◌, ◌<◌, ◌≤◌, Bool, true, false, not, ◌&&◌, ◌⊎◌, List, [], ◌∷◌, ◌++◌, map, length, drop, is_some, Some, None, Ok, Err, Option, sym, refl, ap, ◌∙◌, subst, ap₂, ⊎_elim, append-nil, arith}
-use Rattle.std.proofs.lemmas.List.{drop-drop, flat_map_more, length-map, length_push}
+use Rattle.std.proofs.Common.{◌≡◌, ℕ, ◌+◌, ◌<◌, ◌≤◌, Bool, true, false, not, ◌&&◌, ◌⊎◌, List, [], ◌∷◌, ◌++◌, map, length, is_some, Some, None, Ok, Err, Option, sym, refl, ap, ◌∙◌, subst, ap₂, ⊎_elim, append-nil, arith}
+use Rattle.std.proofs.lemmas.List.{length-map}
 use Rattle.std.specs.Option.{option_to_list}
 use Rattle.sheet_format.specs.Lines.{Body, Form, blank, comment, cipher, body, Line}
 use Rattle.sheet_format.specs.Orders.{ciphers_in, cipher_named, bodies_in, body_named, counts, none_counts, ordered, total_blocks, unless, map_ok, order_at_end, summary}
@@ -11,21 +11,13 @@ use Rattle.sheet_format.specs.declared.Mode.{Mode}
 use Rattle.sheet_format.specs.declared.Mode.TheVariants.{Ctr, Cbc}
 use Rattle.sheet_format.specs.declared.SheetFault.{SheetFault}
 use Rattle.sheet_laws.proofs.Clash.{clash}
-use Rattle.sheet.specs.Kept.{in_ctr, Keeps}
+use Rattle.sheet_laws.proofs.Passing.{joined-push, none_counts-push}
+use Rattle.std.proofs.Math.Bool.{and-true, and-false}
+use Rattle.sheet.specs.Kept.{Keeps}
+use Rattle.sheet.specs.Slots.{in_ctr}
+use Rattle.sheet.specs.declared.kept.Kept.{Kept}
 use Rattle.sheet.specs.Progress.{Advanced, blocks_for, Stands}
 use Rattle.sheet.specs.declared.progress.Progress.{Progress}
-
-and-true : (t : Bool) → (t && true) ≡ t
-and-true true = refl
-and-true false = refl
-
-and-false : (t : Bool) → (t && false) ≡ false
-and-false true = refl
-and-false false = refl
-
-and_assoc : (s t u : Bool) → ((s && t) && u) ≡ (s && (t && u))
-and_assoc true t u = refl
-and_assoc false t u = refl
 
 pub blocks-push : (n : ℕ) (bs : List Body) (b : Body)
     → total_blocks n (map ordered (bs ++ b ∷ [])) ≡ total_blocks n (map ordered bs) + blocks_of b.mode n b.len.value
@@ -38,18 +30,6 @@ start_fits Ctr Kuznyechik start e = omega arith
 start_fits Ctr Magma start e = omega arith
 start_fits Cbc c start e = omega arith
 
--- One line more at the end of a list of lines.
-
-ciphers-push : (earlier : List Line) (l : Line) → ciphers_in (earlier ++ l ∷ []) ≡ ciphers_in earlier ++ cipher_named l
-ciphers-push earlier l = sym (flat_map_more cipher_named [] earlier l)
-
-bodies-push : (earlier : List Line) (l : Line) → bodies_in (earlier ++ l ∷ []) ≡ bodies_in earlier ++ body_named l
-bodies-push earlier l = sym (flat_map_more body_named [] earlier l)
-
-counts-push : (earlier : List Line) (l : Line) → none_counts (earlier ++ l ∷ []) ≡ (none_counts earlier && not (counts l))
-counts-push [] l = and-true (not (counts l))
-counts-push (x ∷ earlier) l = ap (λ (t : Bool). not (counts x) && t) (counts-push earlier l) ∙ sym (and_assoc (not (counts x)) (none_counts earlier) (not (counts l)))
-
 -- no body stands among lines that do not count
 no-bodies : (earlier : List Line) → none_counts earlier ≡ true → bodies_in earlier ≡ []
 no-bodies [] e = refl
@@ -60,64 +40,58 @@ no-bodies (Some (cipher c) ∷ ls) e = clash (cc)
 no-bodies (Some (body b) ∷ ls) e = clash (cc)
 
 -- a line that is passed over
-module _ (p : Progress) (area : List ℕ) (earlier : List Line) (st : Stands p area earlier) where
-  stands_same : (l : Line) → cipher_named l ≡ [] → body_named l ≡ [] → counts l ≡ false → Stands p area (earlier ++ l ∷ [])
+module _ (p : Progress) (earlier : List Line) (st : Stands p earlier) where
+  stands_same : (l : Line) → cipher_named l ≡ [] → body_named l ≡ [] → counts l ≡ false → Stands p (earlier ++ l ∷ [])
   stands_same l c b n =
       let cs : ciphers_in (earlier ++ l ∷ []) ≡ ciphers_in earlier =
-      ciphers-push earlier l ∙ ap (λ (xs : List CipherKind). ciphers_in earlier ++ xs) c ∙ append-nil (ciphers_in earlier) in
+      joined-push cipher_named earlier l ∙ ap (λ (xs : List CipherKind). ciphers_in earlier ++ xs) c ∙ append-nil (ciphers_in earlier) in
       let bs : bodies_in (earlier ++ l ∷ []) ≡ bodies_in earlier =
-      bodies-push earlier l ∙ ap (λ (xs : List Body). bodies_in earlier ++ xs) b ∙ append-nil (bodies_in earlier) in
+      joined-push body_named earlier l ∙ ap (λ (xs : List Body). bodies_in earlier ++ xs) b ∙ append-nil (bodies_in earlier) in
       let ns : none_counts (earlier ++ l ∷ []) ≡ none_counts earlier =
-      counts-push earlier l ∙ ap (λ (t : Bool). none_counts earlier && not t) n ∙ and-true (none_counts earlier) in
+      none_counts-push earlier l ∙ ap (λ (t : Bool). none_counts earlier && not t) n ∙ and-true (none_counts earlier) in
       record {
         named = cs ∙ st.named;
         uncounted = ns ∙ st.uncounted;
-        many = st.many ∙ sym (ap length bs);
-        few = st.few;
         summed = st.summed ∙ sym (ap₂ blocks_for cs bs);
         limited = st.limited;
-        kept = subst (Keeps area) (sym bs) st.kept;
+        kept = subst (Keeps p.kept) (sym bs) st.kept;
       }
 
-  pub stands-blank : Stands p area (earlier ++ Some blank ∷ [])
+  pub stands-blank : Stands p (earlier ++ Some blank ∷ [])
   stands-blank = stands_same (Some blank) refl refl refl
 
-  pub stands-comment : Stands p area (earlier ++ Some comment ∷ [])
+  pub stands-comment : Stands p (earlier ++ Some comment ∷ [])
   stands-comment = stands_same (Some comment) refl refl refl
 
   -- the cipher line
   pub stands-cipher : (c : CipherKind) → p.cipher ≡ None
-      → Stands (record { cipher = Some c; bodies = p.bodies; blocks = p.blocks }) area (earlier ++ Some (cipher c) ∷ [])
+      → Stands (record { cipher = Some c; blocks = p.blocks; kept = p.kept }) (earlier ++ Some (cipher c) ∷ [])
   stands-cipher c e =
       let none : ciphers_in earlier ≡ [] = st.named ∙ ap option_to_list e in
       let nobody : bodies_in earlier ≡ [] = no-bodies earlier (st.uncounted ∙ ap (λ (o : Option CipherKind). not (is_some o)) e) in
       let cs : ciphers_in (earlier ++ Some (cipher c) ∷ []) ≡ c ∷ [] =
-      ciphers-push earlier (Some (cipher c)) ∙ ap (λ (xs : List CipherKind). xs ++ c ∷ []) none in
+      joined-push cipher_named earlier (Some (cipher c)) ∙ ap (λ (xs : List CipherKind). xs ++ c ∷ []) none in
       let bs : bodies_in (earlier ++ Some (cipher c) ∷ []) ≡ [] =
-      bodies-push earlier (Some (cipher c)) ∙ append-nil (bodies_in earlier) ∙ nobody in
+      joined-push body_named earlier (Some (cipher c)) ∙ append-nil (bodies_in earlier) ∙ nobody in
       record {
         named = cs;
-        uncounted = counts-push earlier (Some (cipher c)) ∙ and-false (none_counts earlier);
-        many = st.many ∙ ap length (nobody ∙ sym bs);
-        few = st.few;
+        uncounted = none_counts-push earlier (Some (cipher c)) ∙ and-false (none_counts earlier);
         summed = st.summed ∙ ap₂ blocks_for none nobody ∙ sym (ap₂ blocks_for cs bs);
         limited = st.limited;
-        kept = subst (Keeps area) (nobody ∙ sym bs) st.kept;
+        kept = subst (Keeps p.kept) (nobody ∙ sym bs) st.kept;
       }
 
   -- a body line
-  pub stands-body : (b : Body) (left : List ℕ) (total : ℕ) → is_some p.cipher ≡ true → p.bodies < 32 → total ≤ 1000000
+  pub stands-body : (b : Body) (left : Kept) (total : ℕ) → is_some p.cipher ≡ true → total ≤ 1000000
       → total ≡ blocks_for (ciphers_in earlier) (bodies_in earlier ++ b ∷ []) → Keeps left (bodies_in earlier ++ b ∷ [])
-      → Stands (record { cipher = p.cipher; bodies = p.bodies + 1; blocks = total }) left (earlier ++ Some (body b) ∷ [])
-  stands-body b left total some room limit sum keeps =
+      → Stands (record { cipher = p.cipher; blocks = total; kept = left }) (earlier ++ Some (body b) ∷ [])
+  stands-body b left total some limit sum keeps =
       let cs : ciphers_in (earlier ++ Some (body b) ∷ []) ≡ ciphers_in earlier =
-      ciphers-push earlier (Some (body b)) ∙ append-nil (ciphers_in earlier) in
-      let bs : bodies_in (earlier ++ Some (body b) ∷ []) ≡ bodies_in earlier ++ b ∷ [] = bodies-push earlier (Some (body b)) in
+      joined-push cipher_named earlier (Some (body b)) ∙ append-nil (ciphers_in earlier) in
+      let bs : bodies_in (earlier ++ Some (body b) ∷ []) ≡ bodies_in earlier ++ b ∷ [] = joined-push body_named earlier (Some (body b)) in
       record {
         named = cs ∙ st.named;
-        uncounted = counts-push earlier (Some (body b)) ∙ and-false (none_counts earlier) ∙ sym (ap not some);
-        many = ap (λ (n : ℕ). n + 1) st.many ∙ sym (length_push (bodies_in earlier) b) ∙ sym (ap length bs);
-        few = omega arith;
+        uncounted = none_counts-push earlier (Some (body b)) ∙ and-false (none_counts earlier) ∙ sym (ap not some);
         summed = sum ∙ sym (ap₂ blocks_for cs bs);
         limited = limit;
         kept = subst (Keeps left) (sym bs) keeps;
@@ -141,17 +115,11 @@ answered k blocks bodies c cs (b ∷ bs) h n e =
     ap₂ (λ (m t : ℕ). Ok (record { block_length = block_length c; bodies = m; blocks = t }))
     (n ∙ sym (length-map (b ∷ bs) ordered)) e
 
--- what is left alone behind one place is left alone behind a later one
-pub drop-later : (n m : ℕ) (xs ys : List ℕ) → n ≤ m → drop n xs ≡ drop n ys → drop m xs ≡ drop m ys
-drop-later n m xs ys h e =
-    let s : m ≡ n + (m - n) = omega arith in
-    ap (λ (i : ℕ). drop i xs) s ∙ sym (drop-drop (m - n) n xs) ∙ ap (drop (m - n)) e ∙ drop-drop (m - n) n ys ∙ ap (λ (i : ℕ). drop i ys) (sym s)
-
 -- a line that is passed over leaves the state as it is
-pub passed_over : (p : Progress) (area : List ℕ) (k : ℕ) (f : Form) → (f ≡ blank) ⊎ (f ≡ comment) → Advanced p area p area k f (Ok tt)
-passed_over p area k f told =
-    let At : Form → Type 0 = λ g. Advanced p area p area k g (Ok tt) in
+pub passed_over : (p : Progress) (k : ℕ) (f : Form) → (f ≡ blank) ⊎ (f ≡ comment) → Advanced p p k f (Ok tt)
+passed_over p k f told =
+    let At : Form → Type 0 = λ g. Advanced p p k g (Ok tt) in
     ⊎_elim
-    (λ e. subst At (sym e) (record { answer = λ _ _. refl; next = stands-blank p area }))
-    (λ e. subst At (sym e) (record { answer = λ _ _. refl; next = stands-comment p area }))
+    (λ e. subst At (sym e) (record { answer = λ _ _. refl; next = stands-blank p }))
+    (λ e. subst At (sym e) (record { answer = λ _ _. refl; next = stands-comment p }))
     told

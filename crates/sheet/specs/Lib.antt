@@ -1,3 +1,4 @@
+pub mod Slots
 pub mod Kept
 pub mod Progress
 pub mod Checking

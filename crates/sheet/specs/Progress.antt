@@ -14,19 +14,17 @@ abbrev pub blocks_for : List CipherKind → List Body → ℕ
 blocks_for [] bs = 0
 blocks_for (c ∷ cs) bs = total_blocks (block_length c) (map ordered bs)
 
--- the state, with the work area, is that of these lines
-pub record Stands (p : Progress) (area : List ℕ) (earlier : List Line) : Type 0 where
+-- the state is that of these lines
+pub record Stands (p : Progress) (earlier : List Line) : Type 0 where
   pub named : ciphers_in earlier ≡ option_to_list p.cipher
   pub uncounted : none_counts earlier ≡ not (is_some p.cipher)
-  pub many : p.bodies ≡ length (bodies_in earlier)
-  pub few : p.bodies ≤ 32
   pub summed : p.blocks ≡ blocks_for (ciphers_in earlier) (bodies_in earlier)
   pub limited : p.blocks ≤ 1000000
-  pub kept : Keeps area (bodies_in earlier)
+  pub kept : Keeps p.kept (bodies_in earlier)
 
 -- lines that led to the state
-abbrev pub Reached : Progress → List ℕ → Type 0
-Reached p area = (earlier : List Line) × Stands p area earlier
+abbrev pub Reached : Progress → Type 0
+Reached p = (earlier : List Line) × Stands p earlier
 
 -- what is answered to a body line: the blocks with it, or its fault
 abbrev pub admitted : ℕ → List Line → Body → Result ℕ SheetFault
@@ -44,6 +42,6 @@ refused_by None = Ok tt
 refused_by (Some f) = Err f
 
 -- line k, of form f, is refused for its first fault, or leads from one state to the next
-pub record Advanced (p : Progress) (area : List ℕ) (q : Progress) (left : List ℕ) (k : ℕ) (f : Form) (r : Result (Unit {0}) SheetFault) : Type 0 where
-  pub answer : (earlier : List Line) → Stands p area earlier → r ≡ refused_by (line_fault k earlier (Some f))
-  pub next : (earlier : List Line) → Stands p area earlier → OnOk r (Stands q left (earlier ++ Some f ∷ []))
+pub record Advanced (p q : Progress) (k : ℕ) (f : Form) (r : Result (Unit {0}) SheetFault) : Type 0 where
+  pub answer : (earlier : List Line) → Stands p earlier → r ≡ refused_by (line_fault k earlier (Some f))
+  pub next : (earlier : List Line) → Stands p earlier → OnOk r (Stands q (earlier ++ Some f ∷ []))

@@ -1,10 +1,10 @@
 // `check`: whether a sheet passes.
-ghost use Rattle.std.specs.Prelude.{◌≡◌, ℕ, ◌≤◌, List, [], length, drop, OnOk};
-ghost use Rattle.sheet_format.specs.Lines.{lines_of};
-ghost use Rattle.sheet_format.specs.Orders.{checked_of, map_ok, order_from, order_of, summary};
+ghost use Rattle.std.specs.Prelude.{◌≡◌, ℕ, ◌≤◌, length, replicate, OnOk};
+ghost use Rattle.sheet_format.specs.Orders.{checked_of, map_ok, order_of, summary};
 ghost use Rattle.sheet_laws.specs.CheckLaw.{CheckLaw};
-ghost use Rattle.sheet.specs.Checking.{after_check, allowed_or_fault, cleared_front};
+ghost use Rattle.sheet.specs.Checking.{after_check, allowed_or_fault};
 
+use super::kept::Kept;
 use super::progress::Progress;
 use sheet_format::{Checked, MAX_SHEET, SheetFault, WORK_LENGTH};
 use sheet_lines::reader::Lines;
@@ -14,12 +14,9 @@ struct ClearFront<'a>(&'a mut [u8]);
 
 impl Drop for ClearFront<'_> {
     fn drop(self)
-        ensures { self.exit.0.now ≡ cleared_front self.entry.0.now }
+        ensures { self.exit.0.now ≡ replicate (length self.entry.0.now) 0 }
     {
-        let n = self.0.len().min(WORK_LENGTH);
-        for i in 0..n {
-            self.0[i] = 0;
-        }
+        self.0.fill(0);
         let ClearFront(_) = self;
     }
 }
@@ -43,30 +40,20 @@ fn check_bytes(sheet: &[u8]) -> Result<(), SheetFault>
     Ok(())
 }
 
-// Line by line from the top.
-fn check_lines(sheet: &[u8], area: &mut [u8]) -> Result<Checked, SheetFault>
-    requires sheet { length sheet.now ≤ 4096 }
-    requires area { 1792 ≤ length area.old }
-    ensures answer { result ≡ map_ok summary (order_from [] (lines_of sheet.now)) }
-    ensures rest { drop 1792 area.new ≡ drop 1792 area.old }
+// Length and bytes first, then line by line from the top.
+fn check_in(sheet: &[u8], area: &mut [u8]) -> Result<Checked, SheetFault>
+    requires { length area.old ≡ 1792 }
+    ensures { result ≡ map_ok summary (order_of sheet.now) }
 {
-    let mut progress = Progress::new();
+    check_bytes(sheet)?;
+    let mut progress = Progress::new(Kept::new(area));
     let mut last = 0;
     for item in Lines::new(sheet) {
         let line = item?;
         last = line.number;
-        progress.take_line(line, area)?;
+        progress.take_line(line)?;
     }
     progress.finish(last)
-}
-
-fn check_in(sheet: &[u8], area: &mut [u8]) -> Result<Checked, SheetFault>
-    requires { 1792 ≤ length area.old }
-    ensures answer { result ≡ map_ok summary (order_of sheet.now) }
-    ensures rest { drop 1792 area.new ≡ drop 1792 area.old }
-{
-    check_bytes(sheet)?;
-    check_lines(sheet, area)
 }
 
 // Whether a sheet passes: n, the number of bodies and the sum of their blocks, or the one fault for which it is refused.
@@ -79,6 +66,8 @@ pub fn check(sheet: &[u8], work: &mut [u8]) -> Result<Checked, SheetFault>
     if work.len() < WORK_LENGTH {
         return Err(SheetFault::ShortWorkArea);
     }
-    let guard = ClearFront(work);
+    // no array of 1,792 bytes by `first_chunk_mut`: a proof then knows nothing of the work area afterwards
+    let (front, _) = work.split_at_mut(WORK_LENGTH);
+    let guard = ClearFront(front);
     check_in(sheet, &mut *guard.0)
 }

@@ -1,8 +1,8 @@
 // What `check` keeps of the bodies before a line: 56 bytes a body in the work area, with the name, and START if it is a ctr body.
-ghost use Rattle.std.specs.Prelude.{◌≡◌, ℕ, ◌+◌, ◌*◌, ◌≤◌, List, [], ◌∷◌, ◌++◌, length, drop};
-ghost use Rattle.sheet_format.specs.Lines.{Body};
-ghost use Rattle.sheet_format.specs.Orders.{has_ctr_start, has_name};
-ghost use Rattle.sheet.specs.Kept.{Keeps, ctr_start, name_kept, start_kept};
+ghost use Rattle.std.specs.Prelude.{◌≡◌, ℕ, ◌+◌, ◌≤◌, ◌<◌, List, [], ◌∷◌, ◌++◌, length};
+ghost use Rattle.std.specs.Str.{bytes_eq};
+ghost use Rattle.std.specs.List.{list_any};
+ghost use Rattle.sheet.specs.Slots.{ctr_start, name_kept, start_kept};
 ghost use Rattle.sheet_lines.specs.Models.{body_model};
 
 use sheet_format::Mode;
@@ -15,48 +15,30 @@ const START: usize = 8;
 
 const NAME: usize = 24;
 
-fn name_kept<'a>(slot: &'a [u8]) -> &'a [u8]
-    requires { length slot.now ≡ 56 }
+fn name_kept<'a>(slot: &'a [u8; SLOT]) -> &'a [u8]
     ensures { result.now ≡ name_kept slot.now }
 {
     let end = (NAME + slot[0] as usize).min(SLOT);
     &slot[NAME..end]
 }
 
-fn start_kept<'a>(slot: &'a [u8]) -> &'a [u8]
-    requires { length slot.now ≡ 56 }
+fn start_kept<'a>(slot: &'a [u8; SLOT]) -> &'a [u8]
     ensures { result.now ≡ start_kept slot.now }
 {
     let end = (START + slot[1] as usize).min(NAME);
     &slot[START..end]
 }
 
-// Whether one of the bodies kept has the name.
-pub fn name_taken(area: &[u8], count: usize, name: &[u8]) -> bool
-    requires { 56 * count ≤ length area.now }
-    ensures { (bodies : List Body) → count ≡ length bodies → Keeps area.now bodies → result ≡ has_name name.now bodies }
+fn keep_name(slots: &[[u8; SLOT]], name: &[u8]) -> bool
+    ensures { result ≡ list_any (λ s. bytes_eq (name_kept s) name.now) slots.now }
 {
-    for i in 0..count {
-        let at = SLOT * i;
-        if name_kept(&area[at..at + SLOT]) == name {
-            return true;
-        }
-    }
-    false
+    slots.iter().any(|slot| name_kept(slot) == name)
 }
 
-// Whether one of the bodies kept is in ctr and has the START, which is not empty.
-pub fn start_taken(area: &[u8], count: usize, start: &[u8]) -> bool
-    requires { 56 * count ≤ length area.now }
-    ensures { (bodies : List Body) → count ≡ length bodies → Keeps area.now bodies → 1 ≤ length start.now → result ≡ has_ctr_start start.now bodies }
+fn keep_start(slots: &[[u8; SLOT]], start: &[u8]) -> bool
+    ensures { result ≡ list_any (λ s. bytes_eq (start_kept s) start.now) slots.now }
 {
-    for i in 0..count {
-        let at = SLOT * i;
-        if start_kept(&area[at..at + SLOT]) == start {
-            return true;
-        }
-    }
-    false
+    slots.iter().any(|slot| start_kept(slot) == start)
 }
 
 // START of a ctr body, nothing of another.
@@ -69,8 +51,7 @@ fn ctr_start<'a>(body: BodyLine<'a>) -> &'a [u8]
     }
 }
 
-fn fill_slot(slot: &mut [u8], start: &[u8], name: &[u8])
-    requires slot { length slot.old ≡ 56 }
+fn fill_slot(slot: &mut [u8; SLOT], start: &[u8], name: &[u8])
     requires start { length start.now ≤ 16 }
     requires name { length name.now ≤ 32 }
     ensures name { name_kept slot.new ≡ name.now }
@@ -82,14 +63,52 @@ fn fill_slot(slot: &mut [u8], start: &[u8], name: &[u8])
     slot[NAME..NAME + name.len()].copy_from_slice(name);
 }
 
-// Keeps one body more.
-pub fn keep(area: &mut [u8], count: usize, body: BodyLine<'_>)
-    requires room { 56 * count + 56 ≤ length area.old }
-    requires start { length (ctr_start (body_model body)) ≤ 16 }
-    requires name { length body.name.now ≤ 32 }
-    ensures kept { (bodies : List Body) → count ≡ length bodies → Keeps area.old bodies → Keeps area.new (bodies ++ body_model body.entry ∷ []) }
-    ensures rest { drop (56 * count + 56) area.new ≡ drop (56 * count + 56) area.old }
-{
-    let at = SLOT * count;
-    fill_slot(&mut area[at..at + SLOT], ctr_start(body), body.name);
+// The bodies that are kept, one after the other from the front of the work area.
+#[derive(Drop)]
+pub struct Kept<'a> {
+    slots: &'a mut [[u8; SLOT]],
+    pub count: usize,
+    ghost room: { length slots.now ≡ 32 },
+    ghost few: { count ≤ 32 },
+}
+
+impl<'a> Kept<'a> {
+    ghost use Rattle.sheet_format.specs.Lines.{Body};
+    ghost use Rattle.sheet_format.specs.Orders.{has_ctr_start, has_name};
+    ghost use Rattle.sheet.specs.Kept.{Keeps};
+
+    // No body yet.
+    pub fn new(area: &'a mut [u8]) -> Self
+        requires { length area.old ≡ 1792 }
+        ensures { Keeps result [] }
+    {
+        let (slots, _) = area.as_chunks_mut::<SLOT>();
+        Kept { slots, count: 0 }
+    }
+
+    // Whether one of the bodies has the name.
+    pub fn name_taken(&self, name: &[u8]) -> bool
+        ensures { (bodies : List Body) → Keeps self.now bodies → result ≡ has_name name.now bodies }
+    {
+        keep_name(&self.slots[..self.count], name)
+    }
+
+    // Whether one of the bodies is in ctr and has the START, which is not empty.
+    pub fn start_taken(&self, start: &[u8]) -> bool
+        ensures { (bodies : List Body) → Keeps self.now bodies → 1 ≤ length start.now → result ≡ has_ctr_start start.now bodies }
+    {
+        keep_start(&self.slots[..self.count], start)
+    }
+
+    // Keeps one body more.
+    pub fn keep(&mut self, body: BodyLine<'_>)
+        requires room { self.old.count < 32 }
+        requires start { length (ctr_start (body_model body)) ≤ 16 }
+        requires name { length body.name.now ≤ 32 }
+        ensures { (bodies : List Body) → Keeps self.old bodies → Keeps self.new (bodies ++ body_model body.entry ∷ []) }
+    {
+        let slots = &mut *self.slots;
+        fill_slot(&mut slots[self.count], ctr_start(body), body.name);
+        self.count += 1;
+    }
 }

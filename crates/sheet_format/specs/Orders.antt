@@ -1,6 +1,6 @@
 -- What a sheet orders, or the one fault for which it is refused.
 use Rattle.std.specs.Prelude.{ℕ, ◌+◌, Bool, true, false, cond, not, ◌&&◌, ◌||◌, leb, List, [], ◌∷◌, ◌++◌, map, length, is_some, Some, None, Ok, Err, Option, Result, ◌==◌, nat_le, nat_lt}
-use Rattle.std.specs.List.{flat_map}
+use Rattle.std.specs.List.{flat_map, list_all, list_any}
 use Rattle.std.specs.Str.{bytes_eq}
 use Rattle.hex_digits.specs.Hex.{hex_bytes}
 use Rattle.sheet_format.specs.Lines.{Body, blank, comment, cipher, body, Line, lines_of}
@@ -62,8 +62,7 @@ counts (Some (cipher c)) = true
 counts (Some (body b)) = true
 
 abbrev pub none_counts : List Line → Bool
-none_counts [] = true
-none_counts (l ∷ ls) = not (counts l) && none_counts ls
+none_counts = list_all (λ l. not (counts l))
 
 abbrev pub is_empty : {A : Type 0} → List A → Bool
 is_empty [] = true
@@ -109,8 +108,7 @@ wrong_start_digits earlier l =
     of_body l (λ b. of_first (ciphers_in earlier) (λ c. not (length b.start == start_digits b.mode (block_length c))))
 
 abbrev pub has_name : List ℕ → List Body → Bool
-has_name name [] = false
-has_name name (b ∷ bs) = bytes_eq b.name name || has_name name bs
+has_name name = list_any (λ b. bytes_eq b.name name)
 
 -- an earlier body has its name
 abbrev pub name_taken : List Line → Line → Bool
@@ -121,8 +119,7 @@ is_ctr Ctr = true
 is_ctr Cbc = false
 
 abbrev pub has_ctr_start : List ℕ → List Body → Bool
-has_ctr_start start [] = false
-has_ctr_start start (b ∷ bs) = (is_ctr b.mode && bytes_eq b.start start) || has_ctr_start start bs
+has_ctr_start start = list_any (λ b. is_ctr b.mode && bytes_eq b.start start)
 
 -- it is in ctr, and an earlier ctr body has its START
 abbrev pub start_taken : List Line → Line → Bool

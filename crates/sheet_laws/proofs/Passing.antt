@@ -1,7 +1,9 @@
 -- A sheet orders something exactly where it passes: line by line, before the cipher line and after it.
-use Rattle.std.proofs.Common.{◌≡◌, ℕ, ◌+◌, ◌≤◌, true, false, not, ◌&&◌, List, [], ◌∷◌, ◌++◌, map, length, Some, None, Ok, Option, Result, sym, refl, ap, ◌∙◌, subst, append_assoc, append-nil, arith}
+use Rattle.std.proofs.Common.{◌≡◌, ℕ, ◌+◌, ◌≤◌, Bool, true, false, not, ◌&&◌, List, [], ◌∷◌, ◌++◌, map, length, Some, None, Ok, Option, Result, sym, refl, ap, ◌∙◌, subst, append_assoc, append-nil, arith}
 use Rattle.std.specs.List.{flat_map}
+use Rattle.std.proofs.Math.Bool.{and-true}
 use Rattle.std.proofs.lemmas.List.{flat_map_more}
+use Rattle.std.proofs.lemmas.List.Folds.{list_all-append}
 use Rattle.std.proofs.lemmas.Bool.{and_left, ltb-false, le-ltb}
 use Rattle.sheet_format.specs.Lines.{Body, Form, blank, comment, cipher, body, Line, lines_of}
 use Rattle.sheet_format.specs.Orders.{BodyOrder, Order, ordered, cipher_named, body_named, ciphers_in, bodies_in, counts, none_counts, line_fault, unless, order_at_end, order_from, bad_line, byte_fault, length_fault, order_of}
@@ -13,13 +15,11 @@ use Rattle.sheet_laws.proofs.Clash.{clash}
 use Rattle.sheet_laws.proofs.Fitting.{Sound, Fits, After, sound_none, sound-push, fits_next, untrue-test, fits-if-unrefused, unrefused-if-fits}
 use Rattle.sheet_laws.proofs.Rows.{reads-written}
 
-none_counts-push : (ls : List Line) (l : Line) → none_counts (ls ++ l ∷ []) ≡ (none_counts ls && not (counts l))
-none_counts-push [] l = elim (not (counts l)) as (λ t. (t && true) ≡ t) [ true ↦ refl | false ↦ refl ]
-none_counts-push (x ∷ ls) l =
-    elim (not (counts x)) as (λ t. (t && none_counts (ls ++ l ∷ [])) ≡ ((t && none_counts ls) && not (counts l)))
-    [ true ↦ none_counts-push ls l | false ↦ refl ]
+pub none_counts-push : (ls : List Line) (l : Line) → none_counts (ls ++ l ∷ []) ≡ (none_counts ls && not (counts l))
+none_counts-push ls l =
+    list_all-append (λ x. not (counts x)) ls (l ∷ []) ∙ ap (λ (t : Bool). none_counts ls && t) (and-true (not (counts l)))
 
-joined-push : {X A : Type 0} (f : X → List A) (xs : List X) (x : X) → flat_map f (xs ++ x ∷ []) ≡ flat_map f xs ++ f x
+pub joined-push : {X A : Type 0} (f : X → List A) (xs : List X) (x : X) → flat_map f (xs ++ x ∷ []) ≡ flat_map f xs ++ f x
 joined-push f xs x = sym (flat_map_more f [] xs x)
 
 -- only lines that are passed over stand before

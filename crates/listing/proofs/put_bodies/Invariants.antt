@@ -1,4 +1,4 @@
-use Rattle.std.proofs.Common.{◌≡◌, ◌+◌, ◌≤◌, ◌++◌, map, length, vec_items}
+use Rattle.std.proofs.Common.{◌≡◌, ◌+◌, ◌≤◌, ◌++◌, map, vec_items}
 use Rattle.sheet_format.specs.Lines.{lines_of}
 use Rattle.sheet_format.specs.Orders.{bodies_in, ordered}
 use Rattle.sheet_format.specs.Sizes.{block_length}
@@ -8,9 +8,6 @@ use Rattle.listing.proofs.put_bodies.Given as goal
 -- what is written, and the lines of the bodies that are left, make up the whole text
 abbrev pub invariant-loop-item : goal.invariant-loop-item
 invariant-loop-item l =
-    (l.bodies ≤ l.lines.number)
-    × (vec_items l.out ++ bodies_text (block_length l.cipher) (l.bodies + 1) (map ordered (bodies_in (lines_of l.lines.rest.now)))
-    ≡ vec_items l.initial.out ++ bodies_text (block_length l.cipher) 1 (map ordered (bodies_in (lines_of l.initial.lines.rest.now))))
-
-abbrev pub decreases-loop-item : goal.decreases-loop-item
-decreases-loop-item l = length (lines_of l.lines.rest.now)
+    (l.bodies ≤ l.item-iterator.number)
+    × (vec_items l.out ++ bodies_text (block_length l.cipher) (l.bodies + 1) (map ordered (bodies_in (lines_of l.item-iterator.rest.now)))
+    ≡ vec_items l.initial.out ++ bodies_text (block_length l.cipher) 1 (map ordered (bodies_in (lines_of l.sheet))))

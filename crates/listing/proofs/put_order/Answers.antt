@@ -9,5 +9,5 @@ returns c =
     let cipher = c.unwrap-cipher.result in
     let known : (k : CipherKind) → c.args.checked.block_length ≡ block_length k → cipher ≡ k =
     λ k h. kind-known c.args.checked.block_length cipher k c.try_from.result c.try_from.ensures c.unwrap-cipher.ensures h in
-    let e = parts-listing c.args.lines.now.rest.now c.args.checked cipher (vec_items c.args.out.now) c.requires known in
+    let e = parts-listing c.args.sheet.now c.args.checked cipher (vec_items c.args.out.now) c.requires known in
     search (rules, e)

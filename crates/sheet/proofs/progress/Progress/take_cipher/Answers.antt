@@ -4,9 +4,8 @@ use Rattle.sheet.proofs.progress.Progress.take_cipher.Goals as goal
 
 pub returns : goal.returns
 returns c =
-    λ area.
     let none : c.args.self.now.cipher ≡ None = search rules in
     record {
       answer = λ earlier st. search rules;
-      next = λ earlier st. stands-cipher c.args.self.now area earlier st c.args.cipher none;
+      next = λ earlier st. stands-cipher c.args.self.now earlier st c.args.cipher none;
     }
