@@ -1,14 +1,13 @@
 -- How a body is sealed piece by piece.
-use Rattle.std.proofs.Common.{◌≡◌, ℕ, suc, ◌+◌, ◌-◌, ◌/◌, ◌<◌, ◌≤◌, List, [], ◌++◌, length, take, Ok, Err, Result, sym, ap, ◌∙◌, subst, ap₂, arith}
+use Rattle.std.proofs.Common.{◌≡◌, ℕ, suc, ◌+◌, ◌-◌, ◌/◌, ◌<◌, List, [], ◌++◌, length, take, sym, ap, ◌∙◌, subst, ap₂, arith}
 use native.Mathlib.Nat.{zero-div, div-eq_of_lt}
 use Rattle.std.proofs.lemmas.List.{append-nil, append_assoc, take_at}
-use Rattle.std.proofs.lemmas.Bool.{cond_above}
 use Rattle.block.specs.Blocks.{Meaning, Lawful, Same}
 use Rattle.modes_spec.specs.Cbc.{chained}
 use Rattle.modes_spec.specs.Ctr.{joined_with, counter_stream}
 use Rattle.modes_spec.specs.Texts.{◌⊕◌, block_at, joined_to, zeros}
 use Rattle.modes_spec.proofs.Cbc.{size-pos}
-use Rattle.modes.specs.MacState.{MacAt, AbsorbedMac, BegunMac, FinishedMac}
+use Rattle.modes.specs.MacState.{MacAt, AbsorbedMac, FinishedMac}
 use Rattle.modes.proofs.Macs.{mac-long}
 use Rattle.modes.proofs.Streams.{same_then}
 use Rattle.modes_spec.specs.Mac.{mac}
@@ -16,9 +15,8 @@ use Rattle.modes.specs.declared.mac.Mac.{Mac}
 use Rattle.sheet_format.specs.declared.Mode.{Mode}
 use Rattle.sheet_format.specs.declared.Mode.TheVariants.{Ctr, Cbc}
 use Rattle.set_format.specs.Sets.{sealed_front, sealed_in}
-use Rattle.bodies.specs.SealingState.{SealingAt, ModeAt, FinishedMode, room_answer}
-use Rattle.bodies.specs.declared.sealing.ShortOutput.{ShortOutput}
-use Rattle.bodies.specs.declared.sealing.BodySealer.{BodySealer}
+use Rattle.bodies.specs.SealingState.{SealingAt, ModeAt, FinishedMode}
+use Rattle.bodies.specs.declared.body.Body.{Body}
 use Rattle.bodies.specs.declared.sealing.SealingMode.{SealingMode}
 
 -- of an empty text nothing is sealed
@@ -34,18 +32,12 @@ nothing-sealed Ctr c start l =
 nothing-sealed Cbc c start l = ap (joined_to (λ i. chained c start [] (suc i))) (zero-div c.size)
 
 -- the tag's text begins with its front
-pub front-absorbed : (t tag : Meaning) (mode : Mode) (c : Meaning) (start front : List ℕ) (m₀ m₁ : Mac) → Lawful c → Lawful t → Same t tag
-    → BegunMac m₀ → AbsorbedMac tag m₀ front m₁ → MacAt t (front ++ sealed_front mode c start []) m₁
-front-absorbed t tag mode c start front m₀ m₁ lc lt same begun took =
-    subst (λ (x : List ℕ). MacAt t x m₁) (sym (ap (λ (x : List ℕ). front ++ x) (nothing-sealed mode c start lc) ∙ append-nil front)) (took t [] same (begun t lt))
-
-pub room-ok : (need room k : ℕ) → k ≡ need → need ≤ room → ◌≡◌ {A = Result ℕ ShortOutput} (Ok k) (room_answer need room)
-room-ok need room k e h =
-    let f : ℕ → Result ℕ ShortOutput = λ x. Ok x in
-    cond_above room need (Err record {}) (Ok need) (Ok k) h (ap f e)
+pub front-tagged : (t : Meaning) (mode : Mode) (c : Meaning) (start front : List ℕ) (s : Mac) → Lawful c → MacAt t front s → MacAt t (front ++ sealed_front mode c start []) s
+front-tagged t mode c start front s lc held =
+    subst (λ (x : List ℕ). MacAt t x s) (sym (ap (λ (x : List ℕ). front ++ x) (nothing-sealed mode c start lc) ∙ append-nil front)) held
 
 -- what is sealed is taken into the tag's text
-pub sealing-fed : (c t cipher tag : Meaning) (mode : Mode) (start front text piece ys : List ℕ) (s : BodySealer) (m₁ : SealingMode) (mac₁ : Mac) → Same c cipher → Same t tag
+pub sealing-fed : (c t cipher tag : Meaning) (mode : Mode) (start front text piece ys : List ℕ) (s : Body SealingMode) (m₁ : SealingMode) (mac₁ : Mac) → Same c cipher → Same t tag
     → SealingAt c t mode start front text s
     → ModeAt mode c start (text ++ piece) m₁ × (sealed_front mode c start (text ++ piece) ≡ sealed_front mode c start text ++ ys)
     → AbsorbedMac tag s.mac ys mac₁ → SealingAt c t mode start front (text ++ piece) record { mode = m₁; mac = mac₁ }
@@ -58,7 +50,7 @@ sealing-fed c t cipher tag mode start front text piece ys s m₁ mac₁ sc st h 
 }
 
 -- the sealed text and its tag
-pub body_closed : (c t cipher tag tag₁ : Meaning) (mode : Mode) (start front text ys V value : List ℕ) (n : ℕ) (s : BodySealer) (mac₁ : Mac) → Same c cipher → Same t tag → Same tag tag₁
+pub body_closed : (c t cipher tag tag₁ : Meaning) (mode : Mode) (start front text ys V value : List ℕ) (n : ℕ) (s : Body SealingMode) (mac₁ : Mac) → Same c cipher → Same t tag → Same tag tag₁
     → SealingAt c t mode start front text s → FinishedMode cipher s.mode ys → AbsorbedMac tag s.mac ys mac₁ → FinishedMac tag₁ mac₁ value → n ≡ tag.size → V ≡ take (n - 0) value
     → sealed_in mode c start text ++ mac t (front ++ sealed_in mode c start text) ≡ sealed_front mode c start text ++ (ys ++ V)
 body_closed c t cipher tag tag₁ mode start front text ys V value n s mac₁ sc st st₁ h ended took made es ev =

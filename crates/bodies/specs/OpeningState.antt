@@ -11,7 +11,7 @@ use Rattle.modes.specs.declared.cbc.CbcFault.TheVariants as why
 use Rattle.sheet_format.specs.declared.Mode.{Mode}
 use Rattle.sheet_format.specs.declared.Mode.TheVariants.{Ctr, Cbc}
 use Rattle.bodies.specs.SealingState.{start_of}
-use Rattle.bodies.specs.declared.opening.BodyOpener.{BodyOpener}
+use Rattle.bodies.specs.declared.body.Body.{Body}
 use Rattle.bodies.specs.declared.opening.OpeningMode.{OpeningMode}
 use Rattle.bodies.specs.declared.opening.OpeningMode.TheVariants as held
 use Rattle.bodies.specs.declared.opening.ProveFault.{ProveFault}
@@ -33,12 +33,12 @@ ModeOpenAt Cbc c start before sealed (held.Cbc s) = cbc.CbcOpenAt c start before
 
 -- the opener s, over a body cipher that means c and a tag cipher that means t, has taken the sealed bytes in: the tag's text so
 -- far is its front and they
-pub record OpeningAt (c t : Meaning) (mode : Mode) (start : List ℕ) (before : ℕ) (front sealed : List ℕ) (s : BodyOpener) : Type 0 where
+pub record OpeningAt (c t : Meaning) (mode : Mode) (start : List ℕ) (before : ℕ) (front sealed : List ℕ) (s : Body OpeningMode) : Type 0 where
   pub opening : ModeOpenAt mode c start before sealed s.mode
   pub tagged : MacAt t (front ++ sealed) s.mac
 
 -- a new one has taken nothing in, whatever the body cipher
-abbrev pub BegunOpening : Meaning → Mode → List ℕ → ℕ → List ℕ → BodyOpener → Type 0
+abbrev pub BegunOpening : Meaning → Mode → List ℕ → ℕ → List ℕ → Body OpeningMode → Type 0
 BegunOpening tag mode field before front s =
     (c t : Meaning) → Lawful c → Same t tag → Lawful t → OpeningAt c t mode (start_of mode c.size field) before front [] s
 
@@ -66,7 +66,7 @@ TakenMode cipher s piece out (Ok k) s' out' =
     × (drop k out' ≡ drop k out)
 TakenMode cipher s piece out (Err f) s' out' = (s' ≡ s) × (out' ≡ out)
 
-abbrev pub TakenBody : Meaning → Meaning → BodyOpener → List ℕ → List ℕ → Result ℕ TakeFault → BodyOpener → List ℕ → Type 0
+abbrev pub TakenBody : Meaning → Meaning → Body OpeningMode → List ℕ → List ℕ → Result ℕ TakeFault → Body OpeningMode → List ℕ → Type 0
 TakenBody cipher tag s piece out (Ok k) s' out' =
     ((c t : Meaning) (mode : Mode) (start : List ℕ) (before : ℕ) (front sealed : List ℕ) → Same c cipher → Same t tag → OpeningAt c t mode start before front sealed s
     → OpeningAt c t mode start before front (sealed ++ piece) s'

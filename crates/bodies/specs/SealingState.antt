@@ -10,7 +10,7 @@ use Rattle.sheet_format.specs.Sizes.{start_digits}
 use Rattle.sheet_format.specs.declared.Mode.{Mode}
 use Rattle.sheet_format.specs.declared.Mode.TheVariants.{Ctr, Cbc}
 use Rattle.set_format.specs.Sets.{sealed_front, sealed_in}
-use Rattle.bodies.specs.declared.sealing.BodySealer.{BodySealer}
+use Rattle.bodies.specs.declared.body.Body.{Body}
 use Rattle.bodies.specs.declared.sealing.SealingMode.{SealingMode}
 use Rattle.bodies.specs.declared.sealing.SealingMode.TheVariants as held
 use Rattle.bodies.specs.declared.sealing.ShortOutput.{ShortOutput}
@@ -24,7 +24,7 @@ ModeAt Cbc c start text (held.Cbc s) = CbcAt c start text s
 
 -- the sealer s, over a body cipher that means c and a tag cipher that means t, has taken the text in: the tag's text so far is
 -- its front and what is sealed
-pub record SealingAt (c t : Meaning) (mode : Mode) (start front text : List ℕ) (s : BodySealer) : Type 0 where
+pub record SealingAt (c t : Meaning) (mode : Mode) (start front text : List ℕ) (s : Body SealingMode) : Type 0 where
   pub sealing : ModeAt mode c start text s.mode
   pub tagged : MacAt t (front ++ sealed_front mode c start text) s.mac
 
@@ -33,7 +33,7 @@ abbrev pub start_of : Mode → ℕ → List ℕ → List ℕ
 start_of mode n field = take (start_digits mode n / 2) field
 
 -- a new one has taken nothing in, whatever the body cipher
-abbrev pub BegunSealing : Meaning → Mode → List ℕ → List ℕ → BodySealer → Type 0
+abbrev pub BegunSealing : Meaning → Mode → List ℕ → List ℕ → Body SealingMode → Type 0
 BegunSealing tag mode field front s =
     (c t : Meaning) → Lawful c → Same t tag → Lawful t → SealingAt c t mode (start_of mode c.size field) front [] s
 
@@ -72,7 +72,7 @@ FinishedMode cipher s ys =
     → sealed_in mode c start text ≡ sealed_front mode c start text ++ ys
 
 -- a piece that is fed: refused, everything is as it was; else what is sealed goes on by what was written
-abbrev pub FedBody : Meaning → Meaning → BodySealer → List ℕ → List ℕ → Result ℕ ShortOutput → BodySealer → List ℕ → Type 0
+abbrev pub FedBody : Meaning → Meaning → Body SealingMode → List ℕ → List ℕ → Result ℕ ShortOutput → Body SealingMode → List ℕ → Type 0
 FedBody cipher tag s piece out (Ok k) s' out' =
     ((c t : Meaning) (mode : Mode) (start front text : List ℕ) → Same c cipher → Same t tag → SealingAt c t mode start front text s
     → SealingAt c t mode start front (text ++ piece) s' × (sealed_front mode c start (text ++ piece) ≡ sealed_front mode c start text ++ take k out'))
@@ -80,7 +80,7 @@ FedBody cipher tag s piece out (Ok k) s' out' =
 FedBody cipher tag s piece out (Err f) s' out' = (s' ≡ s) × (out' ≡ out)
 
 -- the end: refused, the output is as it was; else what was sealed before, the rest of it and the tag make up the closed body
-abbrev pub ClosedBody : Meaning → Meaning → BodySealer → List ℕ → Result ℕ ShortOutput → List ℕ → Type 0
+abbrev pub ClosedBody : Meaning → Meaning → Body SealingMode → List ℕ → Result ℕ ShortOutput → List ℕ → Type 0
 ClosedBody cipher tag s out (Ok k) out' =
     ((c t : Meaning) (mode : Mode) (start front text : List ℕ) → Same c cipher → Same t tag → SealingAt c t mode start front text s
     → sealed_in mode c start text ++ mac t (front ++ sealed_in mode c start text) ≡ sealed_front mode c start text ++ take k out')

@@ -1,14 +1,15 @@
 // One body, opened: its sealed bytes taken into the tag's text, and deciphered in its mode.
 ghost use Rattle.std.specs.Prelude.{◌≡◌, ℕ, ◌+◌, ◌≤◌, List, [], ◌++◌, length};
-ghost use Rattle.block.specs.Blocks.{Same};
+ghost use Rattle.block.specs.Blocks.{Lawful, Meaning, Same};
+ghost use Rattle.bodies.specs.SealingState.{start_of};
 ghost use Rattle.bodies.specs.declared.opening.TakeFault.TheVariants as take;
-ghost use Rattle.bodies.specs.OpeningState.{BegunOpening, EndedMode, TakenBody, TakenMode, end_fault_of, fault_of, rest_length, take_answer};
+ghost use Rattle.bodies.specs.OpeningState.{BegunOpening, EndedMode, ModeOpenAt, TakenBody, TakenMode, end_fault_of, fault_of, rest_length, take_answer};
 
+use crate::body::{Body, begin_tag};
 use crate::sealing::{ShortOutput, feed_ctr};
 use block::BlockCipher;
 use modes::cbc::CbcFault;
 use modes::ctr::CtrStream;
-use modes::mac::Mac;
 use modes::opening::CbcOpener;
 use sheet_format::Mode;
 
@@ -75,6 +76,16 @@ pub enum OpeningMode {
 }
 
 impl OpeningMode {
+    // A mode that has taken nothing in, of a body with so many whole blocks before the last.
+    fn new(mode: Mode, start: &[u8; 16], before_last: u32) -> Self
+        ensures { (c : Meaning) → Lawful c → ModeOpenAt mode c (start_of mode c.size start.now) before_last [] result }
+    {
+        match mode {
+            Mode::Ctr => OpeningMode::Ctr(CtrStream::new(start)),
+            Mode::Cbc => OpeningMode::Cbc(CbcOpener::new(start, before_last)),
+        }
+    }
+
     // Takes a piece in, whole or not at all, and writes what becomes plain; answers how many bytes.
     fn take<C: BlockCipher>(
         &mut self,
@@ -124,14 +135,8 @@ impl OpeningMode {
     }
 }
 
-// A body that is being opened: the mode, and the MAC of the tag's text so far.
-#[derive(Clone, Copy)]
-pub struct BodyOpener {
-    mode: OpeningMode,
-    mac: Mac,
-}
-
-impl BodyOpener {
+// A body that is being opened.
+impl Body<OpeningMode> {
     // A body of which nothing is there yet. `front` is what the tag covers before the sealed bytes, and `before_last` is how
     // many whole blocks the body has, of which none in cbc is the last.
     pub fn new<T: BlockCipher>(
@@ -140,17 +145,13 @@ impl BodyOpener {
         start: &[u8; 16],
         before_last: u32,
         front: &[u8],
-    ) -> BodyOpener
+    ) -> Self
         ensures begun { BegunOpening (T.BlockCipher.meaning tag.old) mode start.now before_last front.now result }
         ensures same { Same (T.BlockCipher.meaning tag.old) (T.BlockCipher.meaning tag.new) }
     {
-        let mode = match mode {
-            Mode::Ctr => OpeningMode::Ctr(CtrStream::new(start)),
-            Mode::Cbc => OpeningMode::Cbc(CbcOpener::new(start, before_last)),
-        };
-        let mut mac = Mac::new();
-        mac.absorb(tag, front);
-        BodyOpener { mode, mac }
+        let mode = OpeningMode::new(mode, start, before_last);
+        let mac = begin_tag(tag, front);
+        Body { mode, mac }
     }
 
     // Takes a piece in, whole or not at all, and writes what becomes plain; answers how many bytes.

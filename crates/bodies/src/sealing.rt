@@ -1,12 +1,12 @@
 // One body, sealed: its pieces enciphered in its mode, and the sealed bytes taken into the tag's text.
 ghost use Rattle.std.specs.Prelude.{◌≡◌, ℕ, ◌+◌, ◌≤◌, List, [], ◌++◌, length, take, drop, IfOk};
-ghost use Rattle.block.specs.Blocks.{Same};
-ghost use Rattle.bodies.specs.SealingState.{BegunSealing, ClosedBody, FedBody, FedCtr, FedMode, FinishedMode, close_writes, feed_writes, last_length, room_answer};
+ghost use Rattle.block.specs.Blocks.{Lawful, Meaning, Same};
+ghost use Rattle.bodies.specs.SealingState.{BegunSealing, ClosedBody, FedBody, FedCtr, FedMode, FinishedMode, ModeAt, close_writes, feed_writes, last_length, room_answer, start_of};
 
+use crate::body::{Body, begin_tag};
 use block::{BlockCipher, block_length};
 use modes::cbc::CbcSealer;
 use modes::ctr::CtrStream;
-use modes::mac::Mac;
 use sheet_format::Mode;
 
 // The output has no room for what the call has to write.
@@ -41,6 +41,16 @@ pub(crate) fn feed_ctr<C: BlockCipher>(
 }
 
 impl SealingMode {
+    // A mode that has taken nothing in.
+    fn new(mode: Mode, start: &[u8; 16]) -> Self
+        ensures { (c : Meaning) → Lawful c → ModeAt mode c (start_of mode c.size start.now) [] result }
+    {
+        match mode {
+            Mode::Ctr => SealingMode::Ctr(CtrStream::new(start)),
+            Mode::Cbc => SealingMode::Cbc(CbcSealer::new(start)),
+        }
+    }
+
     // Takes a piece in, whole or not at all, and writes what becomes sealed; answers how many bytes.
     fn feed<C: BlockCipher>(
         &mut self,
@@ -88,31 +98,16 @@ impl SealingMode {
     }
 }
 
-// A body that is being sealed: the mode, and the MAC of the tag's text so far.
-#[derive(Clone, Copy)]
-pub struct BodySealer {
-    mode: SealingMode,
-    mac: Mac,
-}
-
-impl BodySealer {
+// A body that is being sealed.
+impl Body<SealingMode> {
     // A body of which nothing is there yet. `front` is what the tag covers before the sealed bytes.
-    pub fn new<T: BlockCipher>(
-        tag: &mut T,
-        mode: Mode,
-        start: &[u8; 16],
-        front: &[u8],
-    ) -> BodySealer
+    pub fn new<T: BlockCipher>(tag: &mut T, mode: Mode, start: &[u8; 16], front: &[u8]) -> Self
         ensures begun { BegunSealing (T.BlockCipher.meaning tag.old) mode start.now front.now result }
         ensures same { Same (T.BlockCipher.meaning tag.old) (T.BlockCipher.meaning tag.new) }
     {
-        let mode = match mode {
-            Mode::Ctr => SealingMode::Ctr(CtrStream::new(start)),
-            Mode::Cbc => SealingMode::Cbc(CbcSealer::new(start)),
-        };
-        let mut mac = Mac::new();
-        mac.absorb(tag, front);
-        BodySealer { mode, mac }
+        let mode = SealingMode::new(mode, start);
+        let mac = begin_tag(tag, front);
+        Body { mode, mac }
     }
 
     // Takes a piece in, whole or not at all, and writes what becomes sealed; answers how many bytes.
