@@ -2,11 +2,12 @@
 #![tactic(auto)]
 
 use listing::list_sheet;
+use sheet_format::MAX_SHEET;
 use std::io::{Read, Write};
 use std::process::ExitCode;
 
 // One byte more than a sheet may have, so that a longer one is told and no more of it is read.
-const LIMIT: u64 = 4_097;
+const LIMIT: u64 = MAX_SHEET as u64 + 1;
 
 fn main(rt: HostRuntime) -> anyhow::Result<ExitCode> {
     let mut sheet = Vec::new(rt.alloc());
