@@ -1,5 +1,5 @@
 -- What an accepted sheet orders: its cipher and its bodies.
-use Rattle.std.proofs.Common.{◌≡◌, ℕ, ◌+◌, List, [], ◌∷◌, ◌++◌, map, length, Some, None, Ok, Err, Option, Result, sym, refl, ap, ◌∙◌, append_assoc, append-nil}
+use Rattle.std.proofs.Common.{◌≡◌, ℕ, ◌+◌, List, [], ◌∷◌, ◌++◌, map, length, Some, Ok, Err, Option, Result, sym, refl, ap, ◌∙◌, append_assoc, append-nil}
 use Rattle.std.specs.Option.{ok_or}
 use Rattle.sheet_format.proofs.Ciphers.{cipher-known}
 use Rattle.sheet_format.specs.Lines.{Body, Line, lines_of}
@@ -10,11 +10,8 @@ use Rattle.sheet_format.specs.declared.CipherKind.{CipherKind}
 use Rattle.sheet_format.specs.declared.NoCipher.{NoCipher}
 use Rattle.sheet_format.specs.declared.SheetFault.{SheetFault}
 use Rattle.sheet_laws.proofs.Clash.{clash}
+use Rattle.sheet_laws.proofs.Passing.{unless-ok}
 use Rattle.listing.specs.Listing.{bodies_text, cipher_text, total_text, order_text, answer_text, listing_of}
-
-unless-ok : (f : Option SheetFault) (r : Result Order SheetFault) (o : Order) → unless f r ≡ Ok o → r ≡ Ok o
-unless-ok None r o e = e
-unless-ok (Some f) r o e = clash (cc)
 
 at-end-bodies : (k : ℕ) (cs : List CipherKind) (bs : List Body) (o : Order) → order_at_end k cs bs ≡ Ok o → o.bodies ≡ map ordered bs
 at-end-bodies k [] bs o e = clash (cc)
@@ -26,14 +23,14 @@ from-bodies : (earlier rest : List Line) (o : Order) → order_from earlier rest
 from-bodies earlier [] o e =
     rw (append-nil earlier) (at-end-bodies (length earlier + 1) (ciphers_in earlier) (bodies_in earlier) o e)
 from-bodies earlier (l ∷ ls) o e =
-    let next = unless-ok (line_fault (length earlier + 1) earlier l) (order_from (earlier ++ l ∷ []) ls) o e in
+    let next = (unless-ok (line_fault (length earlier + 1) earlier l) (order_from (earlier ++ l ∷ []) ls) o e).1 in
     rw append_assoc at (from-bodies (earlier ++ l ∷ []) ls o next)
 
 -- an accepted sheet orders the bodies of its lines
 pub order-bodies : (sheet : List ℕ) (o : Order) → order_of sheet ≡ Ok o → o.bodies ≡ map ordered (bodies_in (lines_of sheet))
 order-bodies sheet o e =
-    let bytes = unless-ok (length_fault sheet) (unless (byte_fault (bad_line 1 sheet)) (order_from [] (lines_of sheet))) o e in
-    from-bodies [] (lines_of sheet) o (unless-ok (byte_fault (bad_line 1 sheet)) (order_from [] (lines_of sheet)) o bytes)
+    let bytes = (unless-ok (length_fault sheet) (unless (byte_fault (bad_line 1 sheet)) (order_from [] (lines_of sheet))) o e).1 in
+    from-bodies [] (lines_of sheet) o (unless-ok (byte_fault (bad_line 1 sheet)) (order_from [] (lines_of sheet)) o bytes).1
 
 -- what `check` answers comes from what the sheet orders
 pub answer-order : (r : Result Order SheetFault) (checked : Checked) → map_ok summary r ≡ Ok checked → (o : Order) × (r ≡ Ok o) × (summary o ≡ checked)

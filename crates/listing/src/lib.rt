@@ -53,6 +53,7 @@ fn put_body(
 fn put_bodies(out: &mut Vec<u8>, cipher: CipherKind, sheet: &[u8]) -> io::Result<()>
     ensures { OnOk result (out.new.items ≡ out.old.items ++ bodies_text (block_length cipher) 1 (map ordered (bodies_in (lines_of sheet.now)))) }
 {
+    // the bodies so far, and no index: other lines stand between them
     let mut bodies: u64 = 0;
     for item in Lines::new(sheet) {
         let Ok(line) = item else {

@@ -1,34 +1,23 @@
 -- One line more: what it does to the state of `check`.
-use Rattle.std.proofs.Common.{◌≡◌, ℕ, ◌+◌, ◌<◌, ◌≤◌, Bool, true, false, not, ◌&&◌, ◌⊎◌, List, [], ◌∷◌, ◌++◌, map, length, is_some, Some, None, Ok, Err, Option, sym, refl, ap, ◌∙◌, subst, ap₂, ⊎_elim, append-nil, arith}
-use Rattle.std.proofs.lemmas.List.{length-map}
+use Rattle.std.proofs.Common.{◌≡◌, ℕ, ◌+◌, ◌≤◌, true, not, List, [], ◌∷◌, ◌++◌, map, is_some, Some, None, Ok, Err, Option, sym, refl, ap, ◌∙◌, subst, ap₂, append-nil, arith}
 use Rattle.std.specs.Option.{option_to_list}
-use Rattle.sheet_format.specs.Lines.{Body, Form, blank, comment, cipher, body, Line}
-use Rattle.sheet_format.specs.Orders.{ciphers_in, cipher_named, bodies_in, body_named, counts, none_counts, ordered, total_blocks, unless, map_ok, order_at_end, summary}
-use Rattle.sheet_format.specs.Sizes.{block_length, start_digits, blocks_of}
+use Rattle.sheet_format.specs.Lines.{Body, blank, comment, cipher, body, Line}
+use Rattle.sheet_format.specs.Orders.{ciphers_in, cipher_named, bodies_in, body_named, none_counts, ordered, total_blocks, unless}
+use Rattle.sheet_format.specs.Sizes.{blocks_of}
 use Rattle.sheet_format.specs.declared.CipherKind.{CipherKind}
-use Rattle.sheet_format.specs.declared.CipherKind.TheVariants.{Kuznyechik, Magma}
-use Rattle.sheet_format.specs.declared.Mode.{Mode}
-use Rattle.sheet_format.specs.declared.Mode.TheVariants.{Ctr, Cbc}
 use Rattle.sheet_format.specs.declared.SheetFault.{SheetFault}
 use Rattle.sheet_laws.proofs.Clash.{clash}
 use Rattle.sheet_laws.proofs.Passing.{joined-push, none_counts-push}
-use Rattle.std.proofs.Math.Bool.{and-true, and-false}
+use Rattle.std.proofs.Math.Bool.{and-false}
 use Rattle.sheet.specs.Kept.{Keeps}
-use Rattle.sheet.specs.Slots.{in_ctr}
 use Rattle.sheet.specs.declared.kept.Kept.{Kept}
-use Rattle.sheet.specs.Progress.{Advanced, blocks_for, Stands}
+use Rattle.sheet.specs.Progress.{blocks_for, Stands}
 use Rattle.sheet.specs.declared.progress.Progress.{Progress}
 
 pub blocks-push : (n : ℕ) (bs : List Body) (b : Body)
     → total_blocks n (map ordered (bs ++ b ∷ [])) ≡ total_blocks n (map ordered bs) + blocks_of b.mode n b.len.value
 blocks-push n [] b = omega arith
 blocks-push n (x ∷ bs) b = let e = blocks-push n bs b in omega (arith, e)
-
--- START of a ctr body has at most 16 digits
-pub start_fits : (m : Mode) (c : CipherKind) (start : List ℕ) → length start ≡ start_digits m (block_length c) → length (in_ctr m start) ≤ 16
-start_fits Ctr Kuznyechik start e = omega arith
-start_fits Ctr Magma start e = omega arith
-start_fits Cbc c start e = omega arith
 
 -- no body stands among lines that do not count
 no-bodies : (earlier : List Line) → none_counts earlier ≡ true → bodies_in earlier ≡ []
@@ -39,30 +28,7 @@ no-bodies (Some comment ∷ ls) e = no-bodies ls e
 no-bodies (Some (cipher c) ∷ ls) e = clash (cc)
 no-bodies (Some (body b) ∷ ls) e = clash (cc)
 
--- a line that is passed over
 module _ (p : Progress) (earlier : List Line) (st : Stands p earlier) where
-  stands_same : (l : Line) → cipher_named l ≡ [] → body_named l ≡ [] → counts l ≡ false → Stands p (earlier ++ l ∷ [])
-  stands_same l c b n =
-      let cs : ciphers_in (earlier ++ l ∷ []) ≡ ciphers_in earlier =
-      joined-push cipher_named earlier l ∙ ap (λ (xs : List CipherKind). ciphers_in earlier ++ xs) c ∙ append-nil (ciphers_in earlier) in
-      let bs : bodies_in (earlier ++ l ∷ []) ≡ bodies_in earlier =
-      joined-push body_named earlier l ∙ ap (λ (xs : List Body). bodies_in earlier ++ xs) b ∙ append-nil (bodies_in earlier) in
-      let ns : none_counts (earlier ++ l ∷ []) ≡ none_counts earlier =
-      none_counts-push earlier l ∙ ap (λ (t : Bool). none_counts earlier && not t) n ∙ and-true (none_counts earlier) in
-      record {
-        named = cs ∙ st.named;
-        uncounted = ns ∙ st.uncounted;
-        summed = st.summed ∙ sym (ap₂ blocks_for cs bs);
-        limited = st.limited;
-        kept = subst (Keeps p.kept) (sym bs) st.kept;
-      }
-
-  pub stands-blank : Stands p (earlier ++ Some blank ∷ [])
-  stands-blank = stands_same (Some blank) refl refl refl
-
-  pub stands-comment : Stands p (earlier ++ Some comment ∷ [])
-  stands-comment = stands_same (Some comment) refl refl refl
-
   -- the cipher line
   pub stands-cipher : (c : CipherKind) → p.cipher ≡ None
       → Stands (record { cipher = Some c; blocks = p.blocks; kept = p.kept }) (earlier ++ Some (cipher c) ∷ [])
@@ -105,21 +71,3 @@ admitted-ok (Some f) x y e = clash (cc)
 pub admitted-err : (o : Option SheetFault) (x : ℕ) (f : SheetFault) → Err f ≡ unless {A = ℕ} o (Ok x) → o ≡ Some f
 admitted-err None x f e = clash (cc)
 admitted-err (Some g) x f e = cc
-
--- the answer at the end of the lines
-pub answered : (k blocks bodies : ℕ) (c : CipherKind) (cs : List CipherKind) (bs : List Body) → 0 < bodies → bodies ≡ length bs
-    → blocks ≡ blocks_for (c ∷ cs) bs
-    → Ok (record { block_length = block_length c; bodies = bodies; blocks = blocks }) ≡ map_ok summary (order_at_end k (c ∷ cs) bs)
-answered k blocks bodies c cs [] h n e = absurd (let f : ⊥ = omega arith in f)
-answered k blocks bodies c cs (b ∷ bs) h n e =
-    ap₂ (λ (m t : ℕ). Ok (record { block_length = block_length c; bodies = m; blocks = t }))
-    (n ∙ sym (length-map (b ∷ bs) ordered)) e
-
--- a line that is passed over leaves the state as it is
-pub passed_over : (p : Progress) (k : ℕ) (f : Form) → (f ≡ blank) ⊎ (f ≡ comment) → Advanced p p k f (Ok tt)
-passed_over p k f told =
-    let At : Form → Type 0 = λ g. Advanced p p k g (Ok tt) in
-    ⊎_elim
-    (λ e. subst At (sym e) (record { answer = λ _ _. refl; next = stands-blank p }))
-    (λ e. subst At (sym e) (record { answer = λ _ _. refl; next = stands-comment p }))
-    told

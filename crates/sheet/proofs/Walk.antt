@@ -3,7 +3,7 @@ use Rattle.std.proofs.Common.{◌≡◌, ℕ, ◌+◌, ◌<◌, ◌≤◌, true,
 use Rattle.std.proofs.lemmas.Bool.{and_parts, leb-true}
 use Rattle.sheet_format.specs.Lines as format
 use Rattle.sheet_format.specs.Lines.{Form, blank, comment, cipher, body, is_start, is_name, all_graphic}
-use Rattle.sheet_format.specs.Orders.{Order, line_fault, order_from, unless}
+use Rattle.sheet_format.specs.Orders.{line_fault, order_from, unless}
 use Rattle.sheet_format.specs.declared.SheetFault.{SheetFault}
 use Rattle.sheet_laws.specs.Grammar.{HasForm}
 use Rattle.sheet_laws.proofs.Clash.{clash}
@@ -60,9 +60,3 @@ taken-line before after item l e t =
     let n : length before ≡ length (p.0 ++ 10 ∷ after) = ap length p.1 in
     let m : length (p.0 ++ 10 ∷ after) ≡ length p.0 + length (10 ∷ after) = length-append p.0 (10 ∷ after) in
     (form-fits p.0 (form_model l.kind) p.2, omega arith)
-
--- a sheet that passes length and bytes is refused for its lines alone
-pub bytes-passed : (a b : Option SheetFault) (x : Unit {0}) (r : Result Order SheetFault) → Ok x ≡ unless a (unless b (Ok tt)) → unless a (unless b r) ≡ r
-bytes-passed None None x r e = refl
-bytes-passed None (Some f) x r e = clash (cc)
-bytes-passed (Some f) b x r e = clash (cc)

@@ -31,10 +31,10 @@ fn check_bytes(sheet: &[u8]) -> Result<(), SheetFault>
     }
     let mut line = 1;
     for b in sheet {
-        if *b == 10 {
-            line += 1;
-        } else if *b < 32 || *b > 126 {
-            return Err(SheetFault::BadByte { line });
+        match *b {
+            b'\n' => line += 1,
+            32..=126 => {}
+            _ => return Err(SheetFault::BadByte { line }),
         }
     }
     Ok(())

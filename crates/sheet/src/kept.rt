@@ -29,6 +29,8 @@ fn start_kept<'a>(slot: &'a [u8; SLOT]) -> &'a [u8]
     &slot[START..end]
 }
 
+// Whether one of the slots has the name, and the START. These are two functions, since the check reads nothing off a closure
+// that takes a part of a slot by const parameters.
 fn keep_name(slots: &[[u8; SLOT]], name: &[u8]) -> bool
     ensures { result ≡ list_any (λ s. bytes_eq (name_kept s) name.now) slots.now }
 {

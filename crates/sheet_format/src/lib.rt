@@ -116,7 +116,7 @@ impl Mode {
         let n = cipher.block_length() as u64;
         let length = u64::from(length);
         match self {
-            Mode::Ctr => (length + (n - 1)) / n,
+            Mode::Ctr => length.div_ceil(n),
             Mode::Cbc => length / n + 1,
         }
     }

@@ -51,7 +51,7 @@ after_push earlier l c bs more h q r = record {
   bodies = rw (joined-push body_named earlier l, h.bodies, r);
 }
 
-unless-ok : {A : Type 0} (f : Option SheetFault) (r : Result A SheetFault) (x : A) → unless f r ≡ Ok x → (f ≡ None) × (r ≡ Ok x)
+pub unless-ok : {A : Type 0} (f : Option SheetFault) (r : Result A SheetFault) (x : A) → unless f r ≡ Ok x → (f ≡ None) × (r ≡ Ok x)
 unless-ok None r x e = (refl, e)
 unless-ok (Some f) r x e = clash (cc)
 

@@ -59,7 +59,7 @@ fn decimal_value(digits: &[u8]) -> Option<u32>
 {
     let mut value: u32 = 0;
     for b in digits {
-        if *b < b'0' || *b > b'9' {
+        if !b.is_ascii_digit() {
             return None;
         }
         value = value * 10 + u32::from(*b - b'0');

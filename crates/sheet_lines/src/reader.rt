@@ -7,8 +7,6 @@ use super::fields::cut;
 use super::line::{Line, read_line};
 use sheet_format::SheetFault;
 
-const NEWLINE: u8 = 10;
-
 // The lines of a sheet that are left, and how many were read.
 #[derive(Drop)]
 pub struct Lines<'a> {
@@ -41,7 +39,7 @@ impl<'a> Lines<'a> {
         }
         let number = self.number + 1;
         self.number = number;
-        let Some((text, rest)) = cut(all, NEWLINE) else {
+        let Some((text, rest)) = cut(all, b'\n') else {
             self.rest = &all[all.len()..];
             return Some(Err(SheetFault::NoForm { line: number }));
         };

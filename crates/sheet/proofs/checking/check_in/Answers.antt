@@ -1,31 +1,17 @@
-use Rattle.std.proofs.Common.{ℕ, ◌+◌, [], ◌∷◌, ◌++◌, Some, Err, Option, Result, sym, refl, ap, ◌∙◌, arith, rules}
+use Rattle.std.proofs.Common.{ℕ, ◌+◌, [], ◌∷◌, ◌++◌, Some, Err, Option, Result, sym, ap, ◌∙◌, arith}
 use Rattle.std.proofs.lemmas.List.{length_push}
 use Rattle.std.proofs.lemmas.Result.{err_from_is_err_and}
 use Rattle.sheet_format.specs.Lines as format
 use Rattle.sheet_format.specs.Lines.{lines_of}
-use Rattle.sheet_format.specs.Orders.{bad_line, byte_fault, length_fault, line_fault, map_ok, order_from, summary, unless}
+use Rattle.sheet_format.specs.Orders.{line_fault, map_ok, order_from, summary, unless}
 use Rattle.sheet_format.specs.declared.SheetFault.{SheetFault}
 use Rattle.sheet_lines.specs.Models.{form_model, result_model, tail_of}
 use Rattle.sheet_lines.specs.declared.line.Line.{Line}
-use Rattle.sheet.proofs.Walk.{bytes-passed, next-ok, refused-err, refused-ok, taken-line}
+use Rattle.sheet.proofs.Walk.{next-ok, refused-err, refused-ok, taken-line}
 use Rattle.sheet.proofs.checking.check_in.Goals as goal
 
 abbrev seen : Result Line SheetFault → Option (Result (ℕ × format.Form) SheetFault)
 seen i = Some (result_model i)
-
-pub loop-item-init : goal.loop-item-init
-loop-item-init c =
-    let sheet = c.args.sheet.now in
-    let r = c.new-item-items.ensures.rest in
-    let e = bytes-passed (length_fault sheet) (byte_fault (bad_line 1 sheet)) c.in_ok-check_bytes.field-0 (order_from [] (lines_of sheet))
-    c.in_ok-check_bytes.ensures.value in (
-      [],
-      c.new-progress.ensures,
-      search rules,
-      search rules,
-      search (rules, e),
-      refl,
-    )
 
 pub loop-item-preserved : goal.loop-item-preserved
 loop-item-preserved c =

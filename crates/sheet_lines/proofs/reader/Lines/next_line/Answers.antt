@@ -6,18 +6,6 @@ use Rattle.sheet_lines.specs.Models.{form_model, next_of, step_of, tail_of}
 use Rattle.sheet_lines.proofs.Rows.{lines-at-cut, lines-uncut}
 use Rattle.sheet_lines.proofs.reader.Lines.next_line.Goals as goal
 
-pub returns-then-is_empty : goal.returns-then-is_empty
-returns-then-is_empty c =
-    let h : length c.args.self.now.rest.now ≡ 0 = search rules in
-    let e : c.args.self.now.rest.now ≡ [] = nil_from_length c.args.self.now.rest.now h in
-    let q : [] ≡ lines_of c.args.self.now.rest.now = sym (ap lines_of e) in
-    record {
-      value = ap (next_of c.args.self.now.number) q;
-      parts = (e, e);
-      rest = sym q ∙ ap tail_of q;
-      number = ap (step_of c.args.self.now.number) q;
-    }
-
 pub returns-in_default : goal.returns-in_default
 returns-in_default c =
     let all = c.args.self.now.rest.now in
