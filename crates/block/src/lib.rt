@@ -18,12 +18,12 @@ pub enum BlockFault {
     KeyText,
 }
 
-impl BlockFault {
-    // Layer, number and place.
-    pub fn code(self) -> FaultCode
-        ensures { result ≡ code_of self }
-    {
-        let number = match self {
+// Layer, number and place.
+impl From<BlockFault> for FaultCode {
+    ghost from_gives = { λ f r. r ≡ code_of f };
+
+    fn from(fault: BlockFault) -> FaultCode {
+        let number = match fault {
             BlockFault::BlockLength => 18,
             BlockFault::KeyText => 19,
         };

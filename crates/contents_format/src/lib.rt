@@ -69,12 +69,12 @@ pub enum ContentsFault {
     Entry { number: usize },
 }
 
-impl ContentsFault {
-    // Layer, number and place.
-    pub fn code(self) -> FaultCode
-        ensures { result ≡ code_of self }
-    {
-        let place = match self {
+// Layer, number and place.
+impl From<ContentsFault> for FaultCode {
+    ghost from_gives = { λ f r. r ≡ code_of f };
+
+    fn from(fault: ContentsFault) -> FaultCode {
+        let place = match fault {
             ContentsFault::Header => 0,
             ContentsFault::Entry { number } => number,
         };

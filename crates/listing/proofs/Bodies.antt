@@ -1,13 +1,10 @@
 -- What an accepted sheet orders: its cipher and its bodies.
-use Rattle.std.proofs.Common.{◌≡◌, ℕ, ◌+◌, List, [], ◌∷◌, ◌++◌, map, length, Some, Ok, Err, Option, Result, sym, refl, ap, ◌∙◌, append_assoc, append-nil}
-use Rattle.std.specs.Option.{ok_or}
-use Rattle.sheet_format.proofs.Ciphers.{cipher-known}
+use Rattle.std.proofs.Common.{◌≡◌, ℕ, ◌+◌, List, [], ◌∷◌, ◌++◌, map, length, Ok, Err, Result, sym, refl, ap, ◌∙◌, append_assoc, append-nil}
 use Rattle.sheet_format.specs.Lines.{Body, Line, lines_of}
 use Rattle.sheet_format.specs.Orders.{BodyOrder, Order, ordered, bodies_in, ciphers_in, line_fault, unless, order_at_end, order_from, bad_line, byte_fault, length_fault, order_of, summary, map_ok}
-use Rattle.sheet_format.specs.Sizes.{block_length, cipher_with}
+use Rattle.sheet_format.specs.Sizes.{block_length}
 use Rattle.sheet_format.specs.declared.Checked.{Checked}
 use Rattle.sheet_format.specs.declared.CipherKind.{CipherKind}
-use Rattle.sheet_format.specs.declared.NoCipher.{NoCipher}
 use Rattle.sheet_format.specs.declared.SheetFault.{SheetFault}
 use Rattle.sheet_laws.proofs.Clash.{clash}
 use Rattle.sheet_laws.proofs.Passing.{unless-ok}
@@ -52,10 +49,3 @@ parts-listing sheet checked kind before e h =
     let k = h p.0.cipher (ap (λ (x : Checked). x.block_length) (sym p.2)) in
     parts-text p.0 checked kind (map ordered (bodies_in (lines_of sheet))) before p.2 k (order-bodies sheet p.0 p.1)
     ∙ ap (λ (r : Result Order SheetFault). before ++ answer_text r) (sym p.1)
-
--- the cipher that is found by its block length
-pub kind-known : (n : ℕ) (kind c : CipherKind) (r : Result CipherKind NoCipher) → r ≡ ok_or (cipher_with n) (record {}) → r ≡ Ok kind
-    → n ≡ block_length c → kind ≡ c
-kind-known n kind c r e k h =
-    let p : cipher_with n ≡ Some c = ap cipher_with h ∙ cipher-known c in
-    let q : r ≡ Ok c = e ∙ ap (λ (o : Option CipherKind). ok_or o (record {})) p in cc

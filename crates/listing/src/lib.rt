@@ -8,13 +8,12 @@ ghost use Rattle.sheet_format.specs.Sizes.{block_length};
 ghost use Rattle.sheet_lines.specs.Models.{body_model};
 ghost use Rattle.listing.specs.Listing.{bodies_text, body_text, cipher_text, listing_of, refusal_text, total_text};
 
+use fault::FaultCode;
 use sheet::check;
 use sheet_format::{Checked, CipherKind, SheetFault, WORK_LENGTH};
 use sheet_lines::line::{BodyLine, LineKind};
 use sheet_lines::reader::Lines;
 use std::alloc::{AllocError, Global};
-use std::io;
-use std::io::Write;
 
 // What `list` prints of a sheet, and whether the sheet is accepted.
 #[derive(Drop)]
@@ -24,11 +23,13 @@ pub struct Listing {
 }
 
 // Appends the line `c CIPHER n`.
-fn put_cipher(out: &mut Vec<u8>, cipher: CipherKind) -> io::Result<()>
+fn put_cipher(out: &mut Vec<u8>, cipher: CipherKind) -> Result<(), AllocError>
     ensures { OnOk result (out.new.items ≡ out.old.items ++ cipher_text cipher) }
 {
     let n = cipher.block_length();
-    writeln!(out, "c {cipher} {n}")
+    let line = format!(in *out.allocator(); "c {cipher} {n}\n")?;
+    out.extend_from_slice(line.as_bytes())?;
+    Ok(())
 }
 
 // Appends the line `b NUMBER MODE LENGTH BLOCKS SEALED NAME`.
@@ -37,20 +38,22 @@ fn put_body(
     cipher: CipherKind,
     number: u64,
     body: BodyLine<'_>,
-) -> io::Result<()>
+) -> Result<(), AllocError>
     ensures { OnOk result (out.new.items ≡ out.old.items ++ body_text (block_length cipher) number (ordered (body_model body.entry))) }
 {
     let mode = body.mode;
     let length = body.length.value;
     let blocks = mode.blocks(cipher, length);
     let sealed = mode.sealed_length(cipher, length);
-    write!(out, "b {number} {mode} {length} {blocks} {sealed} ")?;
-    out.write_all(body.name)?;
-    writeln!(out)
+    let front = format!(in *out.allocator(); "b {number} {mode} {length} {blocks} {sealed} ")?;
+    out.extend_from_slice(front.as_bytes())?;
+    out.extend_from_slice(body.name)?;
+    out.extend_from_slice(b"\n")?;
+    Ok(())
 }
 
 // Appends a line for each body of the sheet.
-fn put_bodies(out: &mut Vec<u8>, cipher: CipherKind, sheet: &[u8]) -> io::Result<()>
+fn put_bodies(out: &mut Vec<u8>, cipher: CipherKind, sheet: &[u8]) -> Result<(), AllocError>
     ensures { OnOk result (out.new.items ≡ out.old.items ++ bodies_text (block_length cipher) 1 (map ordered (bodies_in (lines_of sheet.now)))) }
 {
     // the bodies so far, and no index: other lines stand between them
@@ -68,24 +71,28 @@ fn put_bodies(out: &mut Vec<u8>, cipher: CipherKind, sheet: &[u8]) -> io::Result
 }
 
 // Appends the line `total BODIES BLOCKS`.
-fn put_total(out: &mut Vec<u8>, checked: Checked) -> io::Result<()>
+fn put_total(out: &mut Vec<u8>, checked: Checked) -> Result<(), AllocError>
     ensures { OnOk result (out.new.items ≡ out.old.items ++ total_text checked.bodies checked.blocks) }
 {
     let bodies = checked.bodies;
     let blocks = checked.blocks;
-    writeln!(out, "total {bodies} {blocks}")
+    let line = format!(in *out.allocator(); "total {bodies} {blocks}\n")?;
+    out.extend_from_slice(line.as_bytes())?;
+    Ok(())
 }
 
 // Appends the line `no LAYER NUMBER PLACE`.
-fn put_refusal(out: &mut Vec<u8>, fault: SheetFault) -> io::Result<()>
+fn put_refusal(out: &mut Vec<u8>, fault: SheetFault) -> Result<(), AllocError>
     ensures { OnOk result (out.new.items ≡ out.old.items ++ refusal_text fault) }
 {
-    let code = fault.code();
-    writeln!(out, "no {code}")
+    let code = FaultCode::from(fault);
+    let line = format!(in *out.allocator(); "no {code}\n")?;
+    out.extend_from_slice(line.as_bytes())?;
+    Ok(())
 }
 
 // Appends the listing of an accepted sheet.
-fn put_order(out: &mut Vec<u8>, sheet: &[u8], checked: Checked) -> io::Result<()>
+fn put_order(out: &mut Vec<u8>, sheet: &[u8], checked: Checked) -> Result<(), AllocError>
     requires { map_ok summary (order_of sheet.now) ≡ Ok checked }
     ensures { OnOk result (out.new.items ≡ out.old.items ++ listing_of sheet.now) }
 {
@@ -100,7 +107,7 @@ fn put_listing(
     out: &mut Vec<u8>,
     sheet: &[u8],
     answer: Result<Checked, SheetFault>,
-) -> io::Result<()>
+) -> Result<(), AllocError>
     requires { answer ≡ map_ok summary (order_of sheet.now) }
     ensures { OnOk result (out.new.items ≡ out.old.items ++ listing_of sheet.now) }
 {
@@ -119,8 +126,6 @@ pub fn list_sheet(heap: Global, sheet: &[u8]) -> Result<Listing, AllocError>
     let answer = check(sheet, &mut work);
     let accepted = answer.is_ok();
     let mut text = Vec::new(heap);
-    match put_listing(&mut text, sheet, answer) {
-        Ok(()) => Ok(Listing { text, accepted }),
-        Err(_) => Err(AllocError),
-    }
+    put_listing(&mut text, sheet, answer)?;
+    Ok(Listing { text, accepted })
 }

@@ -36,13 +36,13 @@ impl From<SheetFault> for SetFault {
     }
 }
 
-impl SetFault {
-    // Layer, number and place.
-    pub fn code(self) -> FaultCode
-        ensures { result ≡ code_of self }
-    {
-        let (number, place) = match self {
-            SetFault::Sheet(fault) => return fault.code(),
+// Layer, number and place.
+impl From<SetFault> for FaultCode {
+    ghost from_gives = { λ f r. r ≡ code_of f };
+
+    fn from(fault: SetFault) -> FaultCode {
+        let (number, place) = match fault {
+            SetFault::Sheet(sheet) => return sheet.into(),
             SetFault::BlockLength => (17, 0),
             SetFault::ShortContents => (10, 1),
             SetFault::NoBody => (12, 0),

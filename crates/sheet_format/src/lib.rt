@@ -187,12 +187,12 @@ pub enum SheetFault {
     ShortWorkArea,
 }
 
-impl SheetFault {
-    // Layer, number and place.
-    pub fn code(self) -> FaultCode
-        ensures { result ≡ code_of self }
-    {
-        let (number, place) = match self {
+// Layer, number and place.
+impl From<SheetFault> for FaultCode {
+    ghost from_gives = { λ f r. r ≡ code_of f };
+
+    fn from(fault: SheetFault) -> FaultCode {
+        let (number, place) = match fault {
             SheetFault::TooLong => (1, 0),
             SheetFault::BadByte { line } => (1, line),
             SheetFault::NoForm { line } => (2, line),

@@ -1,7 +1,8 @@
 use Rattle.std.proofs.Common.{◌≡◌, vec_items, rules}
 use Rattle.sheet_format.specs.Sizes.{block_length}
 use Rattle.sheet_format.specs.declared.CipherKind.{CipherKind}
-use Rattle.listing.proofs.Bodies.{kind-known, parts-listing}
+use Rattle.sheet_format.proofs.Ciphers.{kind-known}
+use Rattle.listing.proofs.Bodies.{parts-listing}
 use Rattle.listing.proofs.put_order.Goals as goal
 
 pub returns : goal.returns
