@@ -1,3 +1,5 @@
+pub mod Arrays
+pub mod Chains
 pub mod Cipher
 pub mod Computed
 pub mod Field
