@@ -22,7 +22,6 @@ encipher-folded (suc n) (k ∷ []) a h = absurd (omega arith)
 encipher-folded zero (k ∷ m ∷ ks) a h = absurd (omega arith)
 encipher-folded (suc n) (k ∷ m ∷ ks) a h = encipher-folded n (m ∷ ks) (lsx k a) (omega arith)
 
--- D: the last key, and a round with each of the others, from the last on
 decipher-joined : (ks : List (List ℕ)) (l a : List ℕ) → fold inverse_round (add_key l a) (reverse ks) ≡ decipher (ks ++ (l ∷ [])) a
 unfolding decipher
 decipher-joined [] l a = refl
@@ -32,20 +31,22 @@ decipher-joined (k ∷ m ∷ ks) l a =
     ∙ fold_push inverse_round (add_key l a) (reverse (m ∷ ks)) k
     ∙ ap (λ b. inverse_round b k) (decipher-joined (m ∷ ks) l a)
 
-split_last : (n : ℕ) (ks : List (List ℕ)) → length ks ≡ suc n → ks ≡ take n ks ++ (get_or ks n [] ∷ [])
-split_last n [] h = absurd (omega arith)
-split_last zero (k ∷ []) h = refl
-split_last zero (k ∷ m ∷ ks) h = absurd (omega arith)
-split_last (suc n) (k ∷ ks) h = ap (λ l. k ∷ l) (split_last n ks (omega arith))
+split_last : {A : Type 0} (d : A) (n : ℕ) (ks : List A) → length ks ≡ suc n → ks ≡ take n ks ++ (get_or ks n d ∷ [])
+split_last d n [] h = absurd (omega arith)
+split_last d zero (k ∷ []) h = refl
+split_last d zero (k ∷ m ∷ ks) h = absurd (omega arith)
+split_last d (suc n) (k ∷ ks) h = ap (λ l. k ∷ l) (split_last d n ks (omega arith))
+
+-- all but the last, from the last on
+pub others_reversed : {A : Type 0} (d : A) (n : ℕ) (ks : List A) → length ks ≡ suc n → drop 1 (reverse ks) ≡ reverse (take n ks)
+others_reversed d n ks h = ap (λ l. drop 1 (reverse l)) (split_last d n ks h) ∙ ap (drop 1) (reverse-append (take n ks) (get_or ks n d ∷ []))
 
 -- D: the last key, and a round with each of the others, from the last on
 pub decipher-folded : (n : ℕ) (ks : List (List ℕ)) (a : List ℕ) → length ks ≡ suc n → fold inverse_round (add_key (get_or ks n []) a) (drop 1 (reverse ks)) ≡ decipher ks a
 decipher-folded n ks a h =
     let last = get_or ks n [] in
-    let e : ks ≡ take n ks ++ (last ∷ []) = split_last n ks h in
-    ap (λ l. fold inverse_round (add_key last a) (drop 1 (reverse l))) e
-    ∙ ap (λ l. fold inverse_round (add_key last a) (drop 1 l)) (reverse-append (take n ks) (last ∷ []))
-    ∙ decipher-joined (take n ks) last a ∙ ap (λ l. decipher l a) (sym e)
+    ap (fold inverse_round (add_key last a)) (others_reversed [] n ks h)
+    ∙ decipher-joined (take n ks) last a ∙ ap (λ l. decipher l a) (sym (split_last [] n ks h))
 
 -- D key by key
 

@@ -27,12 +27,8 @@ fn decipher_block(keys: &[u128; 10], a: [u8; 16]) -> [u8; 16]
     ensures { result ≡ decipher (map block_of keys.now) a }
 {
     let b = to_number(a) ^ keys[9];
-    to_block(
-        keys.iter()
-            .rev()
-            .skip(1)
-            .fold(b, |b, k| inverse_round(b, *k)),
-    )
+    let rounds = keys[..9].iter().rev();
+    to_block(rounds.fold(b, |b, k| inverse_round(b, *k)))
 }
 
 // Kuznyechik by tables, prepared with its key. The round keys are held as numbers.
