@@ -1,6 +1,6 @@
 use Rattle.std.proofs.Common.{◌≡◌, ◌+◌, get_or, take, drop, length-take, length-drop, sym, ap, ◌∙◌, arith, rules}
 use Rattle.std.proofs.lemmas.List.{get_or-drop, get_or-take}
-use Rattle.kuznyechik_spec.proofs.Arrays.{filled}
+use Rattle.block.proofs.Arrays.{filled}
 use Rattle.kuznyechik_spec.proofs.Schedule.{rows_from}
 use Rattle.kuznyechik.specs.Pairs.{halves_of}
 use Rattle.kuznyechik.proofs.keys.key_schedule.Goals as goal

@@ -3,7 +3,7 @@ use lib.Bits.{bit_xor}
 use lib.Lanes.{zip2}
 use lib.LanesLaws.{length-zip2}
 use Rattle.kuznyechik_spec.specs.Kuznyechik.{add_key}
-use Rattle.kuznyechik_spec.proofs.Arrays.{filled}
+use Rattle.block.proofs.Arrays.{filled}
 use Rattle.kuznyechik_spec.proofs.Loops.{added}
 use Rattle.kuznyechik.proofs.transformations.add_key.Goals as goal
 

@@ -1,6 +1,6 @@
 use Rattle.std.proofs.Common.{rules}
 use Rattle.kuznyechik_spec.specs.Kuznyechik.{substitution_inverse, inverse_s}
-use Rattle.kuznyechik_spec.proofs.Arrays.{mapped}
+use Rattle.block.proofs.Arrays.{mapped}
 use Rattle.kuznyechik.proofs.transformations.inverse_s.Goals as goal
 
 pub returns : goal.returns

@@ -2,7 +2,7 @@ use Rattle.std.proofs.Common.{◌≡◌, ap, ◌∙◌, [], map, arith, rules}
 use Rattle.kuznyechik_spec.specs.Kuznyechik.{block_of, round_keys}
 use Rattle.kuznyechik_spec.specs.Tables.{number}
 use Rattle.block.proofs.Bytes.{block-from}
-use Rattle.kuznyechik_spec.proofs.Arrays.{mapped}
+use Rattle.block.proofs.Arrays.{mapped}
 use Rattle.kuznyechik_spec.proofs.KeyBlocks.{round_keys-blocks}
 use Rattle.kuznyechik_spec.proofs.Lawful.{same_keys}
 use Rattle.kuznyechik_spec.proofs.Words.{blocks-numbers}
