@@ -204,7 +204,7 @@ fn row_value(i: usize, x: u8) -> u8
     ROWS[i].values[x as usize]
 }
 
-// t by the rows, half byte by half byte from the highest down.
+// t by the rows, half byte by half byte from the highest down. The loop counts i, since i is the half byte's place in the word too.
 pub fn substitute(a: u32) -> u32
     ensures { result ≡ t a }
 {
