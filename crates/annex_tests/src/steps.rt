@@ -5,7 +5,7 @@ ghost use Rattle.annex_tests.specs.Agreement.{Makes, block_at, block_step, keyed
 
 use super::table::{BlockStep, KeyedStep, RoundStep, Step, WordStep};
 use kuznyechik::{
-    add_key, feistel_round, inverse_l, inverse_s, iteration_constant, key_schedule, lsx,
+    Halves, add_key, feistel_round, inverse_l, inverse_s, iteration_constant, key_schedule, lsx,
     transform_l, transform_r, transform_s,
 };
 use magma::tables::{round_function, substitute};
@@ -134,8 +134,9 @@ fn feistel_agrees(input: &[u8], output: &[u8]) -> bool
     let Some(right) = block_at(input, 16) else {
         return false;
     };
-    let next = feistel_round(input[32], left, right);
-    same(&next.0, &output[0..16]) && same(&next.1, &output[16..32])
+    let halves = Halves { left, right };
+    let next = feistel_round(input[32], halves);
+    same(&next.left, &output[0..16]) && same(&next.right, &output[16..32])
 }
 
 fn round_key_agrees(input: &[u8], output: &[u8]) -> bool

@@ -1,8 +1,10 @@
 // The key schedule of section 4.3 of the standard, and E and D of section 4.4 with round keys.
 ghost use Rattle.std.specs.Prelude.{true, ◌≡◌, ◌<◌};
-ghost use Rattle.kuznyechik_spec.specs.Kuznyechik.{are_blocks, decipher, encipher, feistel_round, feistel_rounds, halves, iteration_constant, round_keys};
+ghost use Rattle.kuznyechik_spec.specs.Kuznyechik.{add_key, are_blocks, decipher, encipher, feistel_round, feistel_rounds, inverse_l, inverse_s, iteration_constant, lsx, round_keys};
+ghost use Rattle.kuznyechik.specs.Pairs.{halves_of};
 
 use crate::transformations::{add_key, inverse_l, inverse_s, lsx, transform_l};
+use std::array::from_fn;
 
 // C_i.
 pub fn iteration_constant(i: u8) -> [u8; 16]
@@ -13,48 +15,65 @@ pub fn iteration_constant(i: u8) -> [u8; 16]
     transform_l(c)
 }
 
+// The two blocks on which F works.
+#[derive(Clone, Copy)]
+pub struct Halves {
+    pub left: [u8; 16],
+    pub right: [u8; 16],
+}
+
 // F[C_i].
-pub fn feistel_round(i: u8, left: [u8; 16], right: [u8; 16]) -> ([u8; 16], [u8; 16])
-    ensures { halves result.0 result.1 ≡ feistel_round (iteration_constant i) (halves left right) }
+pub fn feistel_round(i: u8, t: Halves) -> Halves
+    ensures { halves_of result ≡ feistel_round (iteration_constant i) (halves_of t) }
 {
-    let x = lsx(left, iteration_constant(i));
-    (add_key(right, x), left)
+    let Halves { left, right } = t;
+    let sum = add_key(right, lsx(left, iteration_constant(i)));
+    Halves {
+        left: sum,
+        right: left,
+    }
 }
 
 // F[C_(first+7)] .. F[C_first].
-fn feistel_rounds(first: u8, left: [u8; 16], right: [u8; 16]) -> ([u8; 16], [u8; 16])
+fn feistel_rounds(first: u8, t: Halves) -> Halves
     requires { first < 200 }
-    ensures { halves result.0 result.1 ≡ feistel_rounds 8 first (halves left right) }
+    ensures { halves_of result ≡ feistel_rounds 8 first (halves_of t) }
 {
-    let mut x = left;
-    let mut y = right;
-    for j in 0..8 {
-        let next = feistel_round(first + j, x, y);
-        x = next.0;
-        y = next.1;
-    }
-    (x, y)
+    (first..first + 8).fold(
+        t,
+        |t, i|
+            ensures { halves_of result ≡ feistel_round (iteration_constant i) (halves_of t) }
+        { feistel_round(i, t) },
+    )
 }
 
 // The key schedule: K1 to K10.
 pub fn key_schedule(key: &[u8; 32]) -> [[u8; 16]; 10]
     ensures { result ≡ round_keys key.now }
 {
-    let mut left = [0u8; 16];
-    let mut right = [0u8; 16];
-    left.copy_from_slice(&key[0..16]);
-    right.copy_from_slice(&key[16..32]);
-    let mut rows = [[0u8; 16]; 10];
-    rows[0] = left;
-    rows[1] = right;
-    for i in 0..4u8 {
-        let next = feistel_rounds(8 * i + 1, left, right);
-        left = next.0;
-        right = next.1;
-        rows[2 * i as usize + 2] = left;
-        rows[2 * i as usize + 3] = right;
-    }
-    rows
+    let k1 = from_fn(|i| key[i]);
+    let k2 = from_fn(|i| key[16 + i]);
+    let first = Halves {
+        left: k1,
+        right: k2,
+    };
+    let second @ Halves {
+        left: k3,
+        right: k4,
+    } = feistel_rounds(1, first);
+    let third @ Halves {
+        left: k5,
+        right: k6,
+    } = feistel_rounds(9, second);
+    let fourth @ Halves {
+        left: k7,
+        right: k8,
+    } = feistel_rounds(17, third);
+    let Halves {
+        left: k9,
+        right: k10,
+    } = feistel_rounds(25, fourth);
+    [k1, k2, k3, k4, k5, k6, k7, k8, k9, k10]
 }
 
 // Ten round keys, each of them a block.
@@ -76,11 +95,12 @@ pub fn round_keys(key: &[u8; 32]) -> RoundKeys
 pub fn encipher_block(keys: &RoundKeys, a: [u8; 16]) -> [u8; 16]
     ensures { result ≡ encipher keys.now.keys a }
 {
-    let mut b = a;
-    for i in 0..9 {
-        let next = lsx(b, keys.keys[i]);
-        b = next;
-    }
+    let b = keys.keys.iter().take(9).fold(
+        a,
+        |b, k|
+            ensures { result ≡ lsx k.now b }
+        { lsx(b, *k) },
+    );
     add_key(b, keys.keys[9])
 }
 
@@ -88,10 +108,11 @@ pub fn encipher_block(keys: &RoundKeys, a: [u8; 16]) -> [u8; 16]
 pub fn decipher_block(keys: &RoundKeys, a: [u8; 16]) -> [u8; 16]
     ensures { result ≡ decipher keys.now.keys a }
 {
-    let mut b = add_key(a, keys.keys[9]);
-    for i in (0..9).rev() {
-        let next = add_key(inverse_s(inverse_l(b)), keys.keys[i]);
-        b = next;
-    }
-    b
+    let b = add_key(a, keys.keys[9]);
+    keys.keys.iter().rev().skip(1).fold(
+        b,
+        |b, k|
+            ensures { result ≡ add_key k.now (inverse_s (inverse_l b)) }
+        { add_key(inverse_s(inverse_l(b)), *k) },
+    )
 }

@@ -14,7 +14,7 @@ use keys::{decipher_block, encipher_block, round_keys};
 mod keys;
 mod transformations;
 
-pub use keys::{RoundKeys, feistel_round, iteration_constant, key_schedule};
+pub use keys::{Halves, RoundKeys, feistel_round, iteration_constant, key_schedule};
 pub use transformations::{
     add_key, inverse_l, inverse_s, lsx, substitution_inverse, transform_l, transform_r, transform_s,
 };
@@ -48,24 +48,14 @@ impl BlockCipher for Kuznyechik {
     }
 
     fn encipher(&mut self, block: &mut [u8]) -> Result<(), BlockFault> {
-        if block.len() != Self::N {
-            return Err(BlockFault::BlockLength);
-        }
-        let mut a = [0u8; 16];
-        a.copy_from_slice(block);
-        let b = encipher_block(&self.keys, a);
-        block.copy_from_slice(&b);
+        let a = block.as_mut_array().ok_or(BlockFault::BlockLength)?;
+        *a = encipher_block(&self.keys, *a);
         Ok(())
     }
 
     fn decipher(&mut self, block: &mut [u8]) -> Result<(), BlockFault> {
-        if block.len() != Self::N {
-            return Err(BlockFault::BlockLength);
-        }
-        let mut a = [0u8; 16];
-        a.copy_from_slice(block);
-        let b = decipher_block(&self.keys, a);
-        block.copy_from_slice(&b);
+        let a = block.as_mut_array().ok_or(BlockFault::BlockLength)?;
+        *a = decipher_block(&self.keys, *a);
         Ok(())
     }
 }

@@ -1,7 +1,9 @@
 // The transformations of sections 4.1 and 4.2 of the standard.
-ghost use Rattle.std.specs.Prelude.{◌≡◌};
+ghost use Rattle.std.specs.Prelude.{◌≡◌, ℕ, List};
 ghost use Rattle.kuznyechik_spec.specs.Field.{multiply, times_x};
-ghost use Rattle.kuznyechik_spec.specs.Kuznyechik.{InverseTable, add_key, inverse_l, inverse_r, inverse_s, linear, lsx, substitution, substitution_inverse, transform_l, transform_r, transform_s};
+ghost use Rattle.kuznyechik_spec.specs.Kuznyechik.{InverseTable, add_key, inverse_l, inverse_r, inverse_s, linear, lsx, repeated, substitution, substitution_inverse, transform_l, transform_r, transform_s};
+
+use std::array::from_fn;
 
 // The coefficients of l, that of a15 first.
 const COEFFICIENTS: [u8; 16] = [
@@ -60,7 +62,7 @@ fn multiply(c: u8, a: u8) -> u8
     let mut sum = 0u8;
     let mut rest = c;
     let mut term = a;
-    for _i in 0..8usize {
+    for _ in 0..8u8 {
         if rest % 2 == 1 {
             sum ^= term;
         }
@@ -74,11 +76,10 @@ fn multiply(c: u8, a: u8) -> u8
 fn linear(a: [u8; 16]) -> u8
     ensures { result ≡ linear a }
 {
-    let mut sum = 0u8;
-    for i in 0..16 {
-        sum ^= multiply(COEFFICIENTS[i], a[i]);
-    }
-    sum
+    COEFFICIENTS
+        .iter()
+        .zip(a.iter())
+        .fold(0, |sum, (c, x)| sum ^ multiply(*c, *x))
 }
 
 // R.
@@ -97,8 +98,20 @@ fn inverse_r(a: [u8; 16]) -> [u8; 16]
 {
     let mut b = a;
     b.rotate_left(1);
-    let x = linear(b);
-    b[15] = x;
+    b[15] = linear(b);
+    b
+}
+
+// Sixteen steps, one after the other.
+fn sixteen_steps<F: Fn([u8; 16]) -> [u8; 16]>(step: F, a: [u8; 16]) -> [u8; 16]
+    requires { F.IsAlwaysCallable step }
+    ensures { (f : List ℕ → List ℕ) → ((x y : List ℕ) → F.post step x y → y ≡ f x) → result ≡ repeated 16 f a }
+{
+    let mut b = a;
+    for _ in 0..16u8 {
+        let next = step(b);
+        b = next;
+    }
     b
 }
 
@@ -106,24 +119,14 @@ fn inverse_r(a: [u8; 16]) -> [u8; 16]
 pub fn transform_l(a: [u8; 16]) -> [u8; 16]
     ensures { result ≡ transform_l a }
 {
-    let mut b = a;
-    for _i in 0..16usize {
-        let next = transform_r(b);
-        b = next;
-    }
-    b
+    sixteen_steps(transform_r, a)
 }
 
 // The inverse of L.
 pub fn inverse_l(a: [u8; 16]) -> [u8; 16]
     ensures { result ≡ inverse_l a }
 {
-    let mut b = a;
-    for _i in 0..16usize {
-        let next = inverse_r(b);
-        b = next;
-    }
-    b
+    sixteen_steps(inverse_r, a)
 }
 
 // π of a byte.
@@ -151,33 +154,21 @@ pub fn substitution_inverse(x: u8) -> u8
 pub fn transform_s(a: [u8; 16]) -> [u8; 16]
     ensures { result ≡ transform_s a }
 {
-    let mut b = a;
-    for i in 0..16 {
-        b[i] = substitution(b[i]);
-    }
-    b
+    a.map(substitution)
 }
 
 // The inverse of S.
 pub fn inverse_s(a: [u8; 16]) -> [u8; 16]
     ensures { result ≡ inverse_s a }
 {
-    let mut b = a;
-    for i in 0..16 {
-        b[i] = substitution_inverse(b[i]);
-    }
-    b
+    a.map(substitution_inverse)
 }
 
 // X[k].
 pub fn add_key(a: [u8; 16], k: [u8; 16]) -> [u8; 16]
     ensures { result ≡ add_key k a }
 {
-    let mut b = a;
-    for i in 0..16 {
-        b[i] ^= k[i];
-    }
-    b
+    from_fn(|i| a[i] ^ k[i])
 }
 
 // LSX[k], one whole round.

@@ -1,3 +1,4 @@
+pub mod Chains
 pub mod Cipher
 pub mod Computed
 pub mod Field

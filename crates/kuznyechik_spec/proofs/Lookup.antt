@@ -1,7 +1,8 @@
 -- What the sum of sixteen entries of a table is, and back from the number to the block.
 use Rattle.std.proofs.Common.{◌≡◌, ℕ, zero, suc, ◌+◌, ◌*◌, ◌/◌, ◌%◌, ◌^◌, ◌<◌, ◌≤◌, List, [], ◌∷◌, map, length, get_or, drop, sym, refl, ap, ◌∙◌, subst, ap₂, pow-suc, div-one, add-one, arith, drop-cons}
 use native.Mathlib.Nat.{div-div-eq-div-mul}
-use lib.Bits.{bit_xor, xor_assoc, xor_zero_r}
+use lib.Bits.{bit_xor, xor_assoc, xor_zero_l, xor_zero_r}
+use Rattle.std.specs.List.{fold, zip}
 use Rattle.std.proofs.lemmas.List.{drop_all, get_or-map, length-map}
 use Rattle.block.specs.Blocks.{Block, Bytes}
 use Rattle.kuznyechik_spec.specs.Kuznyechik.{transform_l, inverse_l, inverse_s, transform_s, substitution, substitution_inverse}
@@ -33,6 +34,24 @@ lookup-inverse t h a b =
 
 abbrev pub entry_of : List (List ℕ) → ℕ → ℕ → ℕ
 entry_of t p v = get_or (get_or t p []) v 0
+
+zip-none : {A : Type 0} (rows : List A) → zip {X = ℕ} rows [] ≡ []
+zip-none [] = refl
+zip-none (r ∷ rs) = refl
+
+looked-up : (t : List (List ℕ)) (a : List ℕ) (p sum : ℕ) → p + length a ≤ length t
+    → fold (λ s y. bit_xor s (get_or y.0 y.1 0)) sum (zip (drop p t) a) ≡ bit_xor sum (entry_sum (entry_of t) p a)
+unfolding entry_sum
+looked-up t [] p sum h = ap (fold (λ s y. bit_xor s (get_or y.0 y.1 0)) sum) (zip-none (drop p t)) ∙ sym (xor_zero_r sum)
+looked-up t (x ∷ a) p sum h =
+    ap (λ l. fold (λ s y. bit_xor s (get_or y.0 y.1 0)) sum (zip l (x ∷ a))) (drop-cons t p [] (omega arith))
+    ∙ looked-up t a (suc p) (bit_xor sum (entry_of t p x)) (omega arith)
+    ∙ xor_assoc sum (entry_of t p x) (entry_sum (entry_of t) (suc p) a)
+
+-- the entries of the rows, one for each byte, summed from the front
+pub lookup-folded : (t : List (List ℕ)) (a : List ℕ) → length a ≤ length t → fold (λ s y. bit_xor s (get_or y.0 y.1 0)) 0 (zip t a) ≡ lookup_sum t a
+unfolding lookup_sum
+lookup-folded t a h = looked-up t a 0 0 (omega arith) ∙ xor_zero_l (entry_sum (entry_of t) 0 a)
 
 pub lookup-more : (t : List (List ℕ)) (a : List ℕ) (p sum : ℕ) → p < length a
     → bit_xor (bit_xor sum (entry_of t p (get_or a p 0))) (entry_sum (entry_of t) (p + 1) (drop (p + 1) a))

@@ -1,10 +1,11 @@
 -- The steps of the loops in the plain cipher.
-use Rattle.std.proofs.Common.{◌≡◌, ℕ, zero, suc, ◌+◌, ◌-◌, ◌*◌, ◌/◌, ◌%◌, ◌<◌, ◌≤◌, T, eqb, List, [], ◌∷◌, ◌++◌, map, length, get_or, take, drop, set, sym, refl, ap, ◌∙◌, subst, ap₂, one-mul, zero-mul, add-one, arith, eqb→eq, drop-cons}
+use Rattle.std.proofs.Common.{◌≡◌, ℕ, zero, suc, ◌+◌, ◌-◌, ◌*◌, ◌/◌, ◌%◌, ◌<◌, ◌≤◌, T, eqb, List, [], ◌∷◌, ◌++◌, map, length, get_or, take, drop, set, sym, refl, ap, ◌∙◌, ap₂, one-mul, zero-mul, add-one, arith, eqb→eq, drop-cons}
 use lib.Bits.{bit_xor, xor_assoc, xor_zero_r, xor_comm}
 use lib.Lanes.{zip2}
+use Rattle.std.specs.List.{fold, zip}
 use Rattle.std.proofs.lemmas.List.{drop_all}
 use Rattle.kuznyechik_spec.specs.Field.{times_x, multiply_terms, multiply}
-use Rattle.kuznyechik_spec.specs.Kuznyechik.{dot_product, coefficients, linear, transform_r, inverse_r, repeated, substitution_inverse, InverseTable}
+use Rattle.kuznyechik_spec.specs.Kuznyechik.{dot_product, linear, transform_r, inverse_r, repeated, substitution_inverse, InverseTable}
 use Rattle.kuznyechik_spec.proofs.Computed.{every, up_to, below}
 
 pub times_x-low : (a : ℕ) → a < 128 → a * 2 ≡ times_x a
@@ -29,18 +30,12 @@ multiply-more i sum rest term h =
     xor_assoc sum (rest % 2 * term) (multiply_terms (8 - (i + 1)) (rest / 2) (times_x term))
     ∙ ap (bit_xor sum) (sym (ap (λ m. multiply_terms m rest term) e))
 
-pub linear-more : (i sum : ℕ) (a : List ℕ) → i < 16 → length a ≡ 16
-    → bit_xor (bit_xor sum (multiply (get_or coefficients i 0) (get_or a i 0))) (dot_product (drop (i + 1) coefficients) (drop (i + 1) a)) ≡ bit_xor sum (dot_product (drop i coefficients) (drop i a))
-unfolding dot_product coefficients
-linear-more i sum a h n =
-    xor_assoc sum (multiply (get_or coefficients i 0) (get_or a i 0)) (dot_product (drop (i + 1) coefficients) (drop (i + 1) a))
-    ∙ ap (bit_xor sum)
-    (ap (λ m. bit_xor (multiply (get_or coefficients i 0) (get_or a i 0)) (dot_product (drop m coefficients) (drop m a))) (add-one i)
-    ∙ sym (ap₂ dot_product (drop-cons coefficients i 0 h) (drop-cons a i 0 (subst (λ m. i < m) (sym n) h))))
-
-pub linear-all : (i sum : ℕ) (a : List ℕ) → i ≡ 16 → bit_xor sum (dot_product (drop i coefficients) (drop i a)) ≡ linear a → sum ≡ linear a
-unfolding dot_product coefficients
-linear-all i sum a e h = sym (ap (λ m. bit_xor sum (dot_product (drop m coefficients) (drop m a))) e ∙ xor_zero_r sum) ∙ h
+-- the products summed from the front
+pub products-summed : (cs xs : List ℕ) (s : ℕ) → fold (λ t p. bit_xor t (multiply p.0 p.1)) s (zip cs xs) ≡ bit_xor s (dot_product cs xs)
+unfolding dot_product
+products-summed [] xs s = sym (xor_zero_r s)
+products-summed (c ∷ cs) [] s = sym (xor_zero_r s)
+products-summed (c ∷ cs) (x ∷ xs) s = products-summed cs xs (bit_xor s (multiply c x)) ∙ xor_assoc s (multiply c x) (dot_product cs xs)
 
 pub repeated-more : (i n : ℕ) (f : List ℕ → List ℕ) (a : List ℕ) → i < n → repeated (n - (i + 1)) f (f a) ≡ repeated (n - i) f a
 unfolding repeated
@@ -69,19 +64,12 @@ unfolding inverse_r
 rotated-left x [] n e = absurd (omega arith)
 rotated-left x (b ∷ bs) n e = set_last 15 bs b x (omega arith) ∙ ap (λ y. bs ++ (y ∷ [])) e
 
--- the loop that adds a key
-pub added_more : (ks xs ys : List ℕ) (i : ℕ) → i < length ks → i < length xs
-    → ys ≡ take i (zip2 bit_xor ks xs) ++ drop i xs
-    → set ys i (bit_xor (get_or ys i 0) (get_or ks i 0)) ≡ take (i + 1) (zip2 bit_xor ks xs) ++ drop (i + 1) xs
-added_more ks xs ys i h j e = ap (λ l. set l i (bit_xor (get_or l i 0) (get_or ks i 0))) e ∙ go ks xs i h j ∙ ap (λ m. take m (zip2 bit_xor ks xs) ++ drop m xs) (sym (add-one i))
-  where
-    go : (ks xs : List ℕ) (i : ℕ) → i < length ks → i < length xs
-        → set (take i (zip2 bit_xor ks xs) ++ drop i xs) i (bit_xor (get_or (take i (zip2 bit_xor ks xs) ++ drop i xs) i 0) (get_or ks i 0))
-        ≡ take (suc i) (zip2 bit_xor ks xs) ++ drop (suc i) xs
-    go [] xs i h j = absurd (omega arith)
-    go (k ∷ ks) [] i h j = absurd (omega arith)
-    go (k ∷ ks) (x ∷ xs) zero h j = ap (λ y. y ∷ xs) (xor_comm x k)
-    go (k ∷ ks) (x ∷ xs) (suc i) h j = ap (λ l. bit_xor k x ∷ l) (go ks xs i (omega arith) (omega arith))
+-- the sum at each place
+pub added : (ks xs : List ℕ) (i : ℕ) → i < length ks → i < length xs → bit_xor (get_or xs i 0) (get_or ks i 0) ≡ get_or (zip2 bit_xor ks xs) i 0
+added [] xs i h j = absurd (omega arith)
+added (k ∷ ks) [] i h j = absurd (omega arith)
+added (k ∷ ks) (x ∷ xs) zero h j = xor_comm x k
+added (k ∷ ks) (x ∷ xs) (suc i) h j = added ks xs i (omega arith) (omega arith)
 
 -- the inverse of π as a table, tested at each of its entries
 pub inverse-tested : (t : List ℕ) → T (every (λ v. eqb (get_or t v 0) (substitution_inverse v)) (up_to 256 0)) → InverseTable t

@@ -1,15 +1,24 @@
--- The steps of the key schedule.
-use Rattle.std.proofs.Common.{◌≡◌, ℕ, suc, ◌+◌, ◌-◌, ◌<◌, ◌≤◌, sym, ap, ◌∙◌, ap₂, arith}
-use Rattle.kuznyechik_spec.specs.Kuznyechik.{iteration_constant, Halves, feistel_round, feistel_rounds}
+-- The key schedule from its rounds.
+use Rattle.std.proofs.Common.{◌≡◌, ℕ, zero, suc, List, [], ◌∷◌, take, drop, refl, ap, ◌∙◌, ap₂, add-one}
+use Rattle.std.specs.List.{fold, range_with_len}
+use Rattle.kuznyechik_spec.specs.Kuznyechik.{iteration_constant, Halves, halves, feistel_round, feistel_rounds, schedule, round_keys}
 
-pub feistel_rounds-step : (i j : ℕ) (t u : Halves) → j < 8 → u ≡ feistel_round (iteration_constant (i + j)) t
-    → feistel_rounds (8 - (j + 1)) (i + (j + 1)) u ≡ feistel_rounds (8 - j) (i + j) t
+-- F by each constant in turn
+pub rounds-folded : (n i : ℕ) (t : Halves) → fold (λ u j. feistel_round (iteration_constant j) u) t (range_with_len i n) ≡ feistel_rounds n i t
 unfolding feistel_rounds
-feistel_rounds-step i j t u h e =
-    let n : 8 - j ≡ suc (8 - (j + 1)) = omega arith in
-    let m : i + (j + 1) ≡ suc (i + j) = omega arith in
-    ap₂ (λ p q. feistel_rounds (8 - (j + 1)) p q) m e ∙ sym (ap (λ k. feistel_rounds k (i + j) t) n)
+rounds-folded zero i t = refl
+rounds-folded (suc n) i t =
+    let next = feistel_round (iteration_constant i) t in
+    ap (λ m. fold (λ u j. feistel_round (iteration_constant j) u) next (range_with_len m n)) (add-one i) ∙ rounds-folded n (suc i) next
 
-pub feistel_rounds-all : (i j : ℕ) (t : Halves) → 8 ≤ j → feistel_rounds (8 - j) (i + j) t ≡ t
-unfolding feistel_rounds
-feistel_rounds-all i j t h = let n : 8 - j ≡ 0 = omega arith in ap (λ k. feistel_rounds k (i + j) t) n
+-- the pairs of round keys, each from the one before
+pub rows_from : (key x y : List ℕ) (t u v w : Halves) → x ≡ take 16 key → y ≡ drop 16 key → t ≡ feistel_rounds 8 1 (halves x y)
+    → u ≡ feistel_rounds 8 9 t → v ≡ feistel_rounds 8 17 u → w ≡ feistel_rounds 8 25 v
+    → x ∷ y ∷ t.left ∷ t.right ∷ u.left ∷ u.right ∷ v.left ∷ v.right ∷ w.left ∷ w.right ∷ [] ≡ round_keys key
+unfolding round_keys schedule
+rows_from key x y t u v w a b c d e f =
+    ap (λ r. x ∷ y ∷ t.left ∷ t.right ∷ u.left ∷ u.right ∷ v.left ∷ v.right ∷ schedule 1 33 r) f
+    ∙ ap (λ r. x ∷ y ∷ t.left ∷ t.right ∷ u.left ∷ u.right ∷ schedule 2 25 r) e
+    ∙ ap (λ r. x ∷ y ∷ t.left ∷ t.right ∷ schedule 3 17 r) d
+    ∙ ap (λ r. x ∷ y ∷ schedule 4 9 r) c
+    ∙ ap₂ (λ l r. schedule 5 1 (halves l r)) a b

@@ -1,16 +1,21 @@
 -- A block as a number, and the number's bytes as a block: a sum of numbers is the sum of the blocks.
-use Rattle.std.proofs.Common.{◌≡◌, ℕ, zero, suc, ◌+◌, ◌*◌, ◌/◌, ◌%◌, ◌^◌, ◌<◌, ◌≤◌, List, [], ◌∷◌, ◌++◌, map, length, get_or, take, drop, set, sym, refl, ap, ◌∙◌, ap₂, append_assoc, mul_comm, pow-suc, add-one, arith, drop-cons}
+use Rattle.std.proofs.Common.{◌≡◌, ℕ, zero, suc, ◌+◌, ◌*◌, ◌/◌, ◌%◌, ◌^◌, ◌<◌, List, [], ◌∷◌, ◌++◌, map, length, get_or, take, drop, sym, refl, ap, ◌∙◌, ap₂, append_assoc, mul_comm, pow-suc, arith, drop-cons}
 use Rattle.std.specs.List.{AllByRecursion}
 use native.Mathlib.Nat.{div-div-eq-div-mul}
 use lib.Bits.{bit_xor, xor_comm, xor_mod, xor_shr}
 use lib.Lanes.{zip2}
+use mathlib.Core.List.{reverse, reverse-cons, map-append}
+use Rattle.std.specs.List.{fold}
+use Rattle.std.proofs.lemmas.List.{take-map, drop-map}
+use Rattle.std.proofs.lemmas.List.Folds.{fold-map}
 use Rattle.std.proofs.lemmas.List.{drop_all}
 use Rattle.block.specs.Blocks.{Block}
-use Rattle.kuznyechik_spec.specs.Kuznyechik.{add_key, block_of, bytes_of, lsx, inverse_l, transform_l, transform_s}
+use Rattle.kuznyechik_spec.specs.Kuznyechik.{add_key, block_of, bytes_of, decipher, encipher, lsx, inverse_l, inverse_s, transform_l, transform_s}
 use Rattle.kuznyechik_spec.specs.Tables.{number, Holds, lookup_sum, round_entry, inverse_entry}
 use Rattle.kuznyechik_spec.proofs.Cipher.{transform_s-block}
 use Rattle.kuznyechik_spec.proofs.KeyBlocks.{block_of-block}
 use Rattle.kuznyechik_spec.proofs.Linear.{add_key-block, inverse_l-block, transform_l-block}
+use Rattle.kuznyechik_spec.proofs.Rounds.{round, inverse_round, encipher-folded, decipher-folded}
 use Rattle.kuznyechik_spec.proofs.Lookup.{block-parts, lookup-inverse, lookup-round, parts}
 
 -- ---- the bytes of a number, from the last and from the first
@@ -120,23 +125,27 @@ pub blocks-numbers : (rows : List (List ℕ)) → AllByRecursion (Block 16) rows
 blocks-numbers [] h = refl
 blocks-numbers (r ∷ rs) h = ap₂ (λ y l. y ∷ l) (block_of-number r h.0) (blocks-numbers rs h.1)
 
--- the loop that fills a row with f of each
-pub filled_more : (f : List ℕ → ℕ) (xs : List (List ℕ)) (zs ys : List ℕ) (i y : ℕ) → i < length xs → i < length zs
-    → ys ≡ map f (take i xs) ++ drop i zs → y ≡ f (get_or xs i []) → set ys i y ≡ map f (take (i + 1) xs) ++ drop (i + 1) zs
-filled_more f xs zs ys i y h k e is =
-    ap₂ (λ l v. set l i v) e is ∙ go xs zs i h k ∙ ap (λ m. map f (take m xs) ++ drop m zs) (sym (add-one i))
-  where
-    go : (xs : List (List ℕ)) (zs : List ℕ) (i : ℕ) → i < length xs → i < length zs
-        → set (map f (take i xs) ++ drop i zs) i (f (get_or xs i [])) ≡ map f (take (suc i) xs) ++ drop (suc i) zs
-    go [] zs i h k = absurd (omega arith)
-    go (x ∷ xs) [] i h k = absurd (omega arith)
-    go (x ∷ xs) (z ∷ zs) zero h k = refl
-    go (x ∷ xs) (z ∷ zs) (suc i) h k = ap (λ l. f x ∷ l) (go xs zs i (omega arith) (omega arith))
+reverse-blocks : (ks : List ℕ) → reverse (map block_of ks) ≡ map block_of (reverse ks)
+reverse-blocks [] = refl
+reverse-blocks (k ∷ ks) =
+    reverse-cons (block_of k) (map block_of ks) ∙ ap (λ l. l ++ (block_of k ∷ [])) (reverse-blocks ks)
+    ∙ sym (map-append block_of (reverse ks) (k ∷ [])) ∙ ap (map block_of) (sym (reverse-cons k ks))
 
-pub filled-all : (f : List ℕ → ℕ) (xs : List (List ℕ)) (zs : List ℕ) (i : ℕ) → length xs ≤ i → length zs ≤ i
-    → map f (take i xs) ++ drop i zs ≡ map f xs
-filled-all f [] zs zero h k = drop_all zero zs k
-filled-all f [] zs (suc i) h k = drop_all (suc i) zs k
-filled-all f (x ∷ xs) zs zero h k = absurd (omega arith)
-filled-all f (x ∷ xs) [] (suc i) h k = ap (λ l. f x ∷ l) (ap (λ l. map f (take i xs) ++ l) (sym (drop_all i [] (omega arith))) ∙ filled-all f xs [] i (omega arith) (omega arith))
-filled-all f (x ∷ xs) (z ∷ zs) (suc i) h k = ap (λ l. f x ∷ l) (filled-all f xs zs i (omega arith) (omega arith))
+-- E by round keys as numbers: a round with each but the last
+pub encipher-numbers : (n : ℕ) (ks : List ℕ) (a x : List ℕ) → length ks ≡ suc n → x ≡ fold (λ b k. lsx (block_of k) b) a (take n ks)
+    → add_key (block_of (get_or ks n 0)) x ≡ encipher (map block_of ks) a
+encipher-numbers n ks a x h e =
+    ap₂ add_key (sym (get_or-blocks ks n (omega arith)))
+    (e ∙ sym (fold-map round block_of a (take n ks)) ∙ ap (fold round a) (sym (take-map block_of n ks)))
+    ∙ encipher-folded n (map block_of ks) a (length-blocks ks ∙ h)
+
+-- D likewise
+pub decipher-numbers : (n : ℕ) (ks : List ℕ) (a x : List ℕ) → length ks ≡ suc n
+    → x ≡ fold (λ b k. add_key (block_of k) (inverse_s (inverse_l b))) (add_key (block_of (get_or ks n 0)) a) (drop 1 (reverse ks))
+    → x ≡ decipher (map block_of ks) a
+decipher-numbers n ks a x h e =
+    let start = add_key (block_of (get_or ks n 0)) a in
+    e ∙ sym (fold-map inverse_round block_of start (drop 1 (reverse ks)))
+    ∙ ap (fold inverse_round start) (sym (drop-map block_of 1 (reverse ks)) ∙ ap (drop 1) (sym (reverse-blocks ks)))
+    ∙ ap (λ k. fold inverse_round (add_key k a) (drop 1 (reverse (map block_of ks)))) (sym (get_or-blocks ks n (omega arith)))
+    ∙ decipher-folded n (map block_of ks) a (length-blocks ks ∙ h)

@@ -4,7 +4,6 @@
 ghost use Rattle.std.specs.Prelude.{map, ◌≡◌};
 ghost use Rattle.block.specs.Blocks.{Same};
 ghost use Rattle.kuznyechik_spec.specs.Kuznyechik.{block_of, decipher, encipher, kuznyechik};
-ghost use Rattle.kuznyechik_spec.specs.Tables.{number};
 ghost use Rattle.kuznyechik_tables.specs.Meanings.{meaning_of};
 ghost use Rattle.kuznyechik_spec.proofs.Lawful.{lawful-blocks};
 ghost use Rattle.kuznyechik_spec.proofs.Words.{are-blocks};
@@ -16,36 +15,20 @@ use tables::{inverse_round, lsx, to_block, to_number};
 mod tables;
 
 // E. The block is held as its number through the rounds.
-fn encipher_block(keys: &[u128; 10], a: &[u8; 16]) -> [u8; 16]
-    ensures { result ≡ encipher (map block_of keys.now) a.now }
+fn encipher_block(keys: &[u128; 10], a: [u8; 16]) -> [u8; 16]
+    ensures { result ≡ encipher (map block_of keys.now) a }
 {
-    let mut b = to_number(a);
-    for i in 0..9 {
-        b = lsx(b, keys[i]);
-    }
+    let b = keys.iter().take(9).fold(to_number(a), |b, k| lsx(b, *k));
     to_block(b ^ keys[9])
 }
 
 // D.
-fn decipher_block(keys: &[u128; 10], a: &[u8; 16]) -> [u8; 16]
-    ensures { result ≡ decipher (map block_of keys.now) a.now }
+fn decipher_block(keys: &[u128; 10], a: [u8; 16]) -> [u8; 16]
+    ensures { result ≡ decipher (map block_of keys.now) a }
 {
-    let mut b = to_number(a) ^ keys[9];
-    for i in (0..9).rev() {
-        b = inverse_round(b, keys[i]);
-    }
-    to_block(b)
-}
-
-// Round keys as numbers.
-fn to_numbers(rows: &[[u8; 16]; 10]) -> [u128; 10]
-    ensures { result ≡ map (number 0) rows.now }
-{
-    let mut keys = [0u128; 10];
-    for i in 0..10 {
-        keys[i] = to_number(&rows[i]);
-    }
-    keys
+    let b = to_number(a) ^ keys[9];
+    let rounds = keys[..9].iter().rev();
+    to_block(rounds.fold(b, |b, k| inverse_round(b, *k)))
 }
 
 // Kuznyechik by tables, prepared with its key. The round keys are held as numbers.
@@ -60,7 +43,7 @@ impl KuznyechikTables {
         ensures { Same (meaning_of result) (kuznyechik key.now) }
     {
         let rows = key_schedule(key);
-        let keys = to_numbers(&rows);
+        let keys = rows.map(to_number);
         KuznyechikTables { keys }
     }
 }
@@ -79,24 +62,14 @@ impl BlockCipher for KuznyechikTables {
     }
 
     fn encipher(&mut self, block: &mut [u8]) -> Result<(), BlockFault> {
-        if block.len() != Self::N {
-            return Err(BlockFault::BlockLength);
-        }
-        let mut a = [0u8; 16];
-        a.copy_from_slice(block);
-        let b = encipher_block(&self.keys, &a);
-        block.copy_from_slice(&b);
+        let a = block.as_mut_array().ok_or(BlockFault::BlockLength)?;
+        *a = encipher_block(&self.keys, *a);
         Ok(())
     }
 
     fn decipher(&mut self, block: &mut [u8]) -> Result<(), BlockFault> {
-        if block.len() != Self::N {
-            return Err(BlockFault::BlockLength);
-        }
-        let mut a = [0u8; 16];
-        a.copy_from_slice(block);
-        let b = decipher_block(&self.keys, &a);
-        block.copy_from_slice(&b);
+        let a = block.as_mut_array().ok_or(BlockFault::BlockLength)?;
+        *a = decipher_block(&self.keys, *a);
         Ok(())
     }
 }

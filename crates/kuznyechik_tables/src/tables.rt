@@ -8269,12 +8269,14 @@ const INVERSE: [[u128; 256]; 16] = [
     ],
 ];
 
+// The first table. Each table has a function of its own, since each is tested by a rule of its own.
 fn round_table() -> &'static [[u128; 256]; 16]
     ensures { Holds round_entry result.now }
 {
     &ROUND
 }
 
+// The second table.
 fn inverse_table() -> &'static [[u128; 256]; 16]
     ensures { Holds inverse_entry result.now }
 {
@@ -8282,10 +8284,10 @@ fn inverse_table() -> &'static [[u128; 256]; 16]
 }
 
 // The number of a block.
-pub fn to_number(block: &[u8; 16]) -> u128
-    ensures { result ≡ number 0 block.now }
+pub fn to_number(block: [u8; 16]) -> u128
+    ensures { result ≡ number 0 block }
 {
-    u128::from_be_bytes(*block)
+    u128::from_be_bytes(block)
 }
 
 // The block of a number.
@@ -8299,11 +8301,10 @@ pub fn to_block(number: u128) -> [u8; 16]
 fn lookup(table: &[[u128; 256]; 16], bytes: [u8; 16]) -> u128
     ensures { result ≡ lookup_sum table.now bytes }
 {
-    let mut sum = 0u128;
-    for p in 0..16 {
-        sum ^= table[p][bytes[p] as usize];
-    }
-    sum
+    table
+        .iter()
+        .zip(bytes.iter())
+        .fold(0, |sum, (row, x)| sum ^ row[usize::from(*x)])
 }
 
 // LSX[k], one whole round.
@@ -8318,6 +8319,5 @@ pub fn inverse_round(state: u128, key: u128) -> u128
     ensures { block_of result ≡ add_key (block_of key) (inverse_s (inverse_l (block_of state))) }
 {
     let mixed = lookup(inverse_table(), to_block(state));
-    let bytes = inverse_s(to_block(mixed));
-    to_number(&bytes) ^ key
+    to_number(inverse_s(to_block(mixed))) ^ key
 }

@@ -1,8 +1,8 @@
 -- The xor of the four entries that a word's bytes name is t of the word, rotated.
 use Rattle.std.proofs.Common.{◌≡◌, ℕ, ◌+◌, ◌*◌, ◌/◌, ◌%◌, ◌^◌, ◌<◌, List, [], ◌∷◌, get_or, sym, ap, ◌∙◌, ap₂, zero-add, arith}
 use native.Mathlib.Nat.{div-div-eq-div-mul}
-use lib.Bits.{bit_and, bit_xor, xor_block, xor_shifted, xor_zero_l, xor_zero_r, xor_comm}
-use Rattle.std.proofs.lemmas.Nat.{and_mask, field_of, shr_high, mod_low}
+use lib.Bits.{bit_xor, xor_block, xor_shifted, xor_zero_l, xor_zero_r, xor_comm}
+use Rattle.std.proofs.lemmas.Nat.{field_of, shr_high, mod_low}
 use Rattle.magma.specs.Magma.{rows, substituted, t, rotated, g}
 use Rattle.magma.specs.Tables.{byte_at, wide_entry, Holds}
 use Rattle.magma.specs.Rows.{row_at-small}
@@ -98,21 +98,17 @@ entries x =
     (byte_at-below 0 (x % 256)) (byte_at-below 1 (x / 256 % 256)) (byte_at-below 2 (x / 65536 % 256)) (byte_at-below 3 (x / 16777216 % 256))
     ∙ ap rotated (sym (t-bytes x))
 
-masked : (n : ℕ) → bit_and n 255 ≡ n % 256
-masked n = and_mask n 8
+looked : (table : List (List ℕ)) → Holds table → (p y v : ℕ) → p < 4 → v ≡ y % 256 → get_or (get_or table p []) v 0 ≡ wide_entry p (y % 256)
+looked table h p y v l e = ap (λ u. get_or (get_or table p []) u 0) e ∙ h.at p (y % 256) l (omega arith)
 
-looked : (table : List (List ℕ)) → Holds table → (p y : ℕ) → p < 4 → get_or (get_or table p []) (bit_and y 255) 0 ≡ wide_entry p (y % 256)
-looked table h p y l =
-    let m : y % 256 < 256 = omega arith in
-    ap (λ (v : ℕ). get_or (get_or table p []) v 0) (masked y) ∙ h.at p (y % 256) l m
-
--- g by four lookups
-pub g-by-entries : (table : List (List ℕ)) → Holds table → (k a x : ℕ) → x ≡ (a + k) % 2 ^ 32
-    → bit_xor (bit_xor (bit_xor (get_or (get_or table 0 []) (bit_and x 255) 0) (get_or (get_or table 1 []) (bit_and (x / 256) 255) 0)) (get_or (get_or table 2 []) (bit_and (x / 65536) 255) 0)) (get_or (get_or table 3 []) (bit_and (x / 16777216) 255) 0)
+-- g by four lookups, one for each byte of the sum
+pub g-by-entries : (table : List (List ℕ)) → Holds table → (k a x b c d e : ℕ) → x ≡ (a + k) % 2 ^ 32
+    → b ≡ x % 256 → c ≡ x / 256 % 256 → d ≡ x / 65536 % 256 → e ≡ x / 16777216 % 256
+    → bit_xor (bit_xor (bit_xor (get_or (get_or table 0 []) b 0) (get_or (get_or table 1 []) c 0)) (get_or (get_or table 2 []) d 0)) (get_or (get_or table 3 []) e 0)
     ≡ g k a
 unfolding g
-g-by-entries table h k a x e =
+g-by-entries table h k a x b c d e is eb ec ed ee =
     ap₂ bit_xor
-    (ap₂ bit_xor (ap₂ bit_xor (looked table h 0 x (omega arith)) (looked table h 1 (x / 256) (omega arith))) (looked table h 2 (x / 65536) (omega arith)))
-    (looked table h 3 (x / 16777216) (omega arith))
-    ∙ entries x ∙ ap (λ (y : ℕ). rotated (t y)) e
+    (ap₂ bit_xor (ap₂ bit_xor (looked table h 0 x b (omega arith) eb) (looked table h 1 (x / 256) c (omega arith) ec)) (looked table h 2 (x / 65536) d (omega arith) ed))
+    (looked table h 3 (x / 16777216) e (omega arith) ee)
+    ∙ entries x ∙ ap (λ (y : ℕ). rotated (t y)) is

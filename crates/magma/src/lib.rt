@@ -3,15 +3,16 @@
 
 pub mod tables;
 
-ghost use Rattle.std.specs.Prelude.{◌≡◌, ◌+◌, ◌<◌, ◌≤◌, length, slice_index};
+ghost use Rattle.std.specs.Prelude.{◌≡◌, ℕ, ◌+◌, ◌<◌, ◌≤◌, List, length, slice_index};
 ghost use Rattle.block.specs.Blocks.{Same};
-ghost use Rattle.magma.specs.Magma.{deciphered, enciphered, joined_halves, key_words, last_g, magma, round_g, round_key_at, round_keys, word_at};
+ghost use Rattle.magma.specs.Magma.{composed, deciphered, enciphered, halves, joined_halves, key_words, last_g, magma, round_g, round_key_at, round_keys, word_at};
 ghost use Rattle.magma.specs.Prepared.{meaning_of};
 ghost use Rattle.magma.specs.Theorems.{MagmaLaws};
 ghost use Rattle.magma.specs.Laws;
 
 use crate::tables::round_function;
 use block::{BlockCipher, BlockFault};
+use std::array::from_fn;
 
 // The prepared key: the key's eight words in order.
 #[derive(Drop)]
@@ -41,17 +42,24 @@ fn round_key(words: &[u32; 8], i: usize) -> u32
     if i < 24 { words[i % 8] } else { words[31 - i] }
 }
 
-// Writes a1 and a0 over a block.
-fn write_halves(block: &mut [u8], a1: u32, a0: u32)
-    requires { length block.old ≡ 8 }
-    ensures { block.new ≡ joined_halves (a1, a0) }
+// The words a1 and a0 of a block.
+fn halves(block: [u8; 8]) -> (u32, u32)
+    ensures { (result.0, result.1) ≡ halves block }
 {
-    let high = a1.to_be_bytes();
-    let low = a0.to_be_bytes();
-    let both = [
-        high[0], high[1], high[2], high[3], low[0], low[1], low[2], low[3],
-    ];
-    block.copy_from_slice(&both);
+    let [a, b, c, d, e, f, g, h] = block;
+    (
+        u32::from_be_bytes([a, b, c, d]),
+        u32::from_be_bytes([e, f, g, h]),
+    )
+}
+
+// The block of the words a1 and a0.
+fn joined_halves(a1: u32, a0: u32) -> [u8; 8]
+    ensures { result ≡ joined_halves (a1, a0) }
+{
+    let [a, b, c, d] = a1.to_be_bytes();
+    let [e, f, g, h] = a0.to_be_bytes();
+    [a, b, c, d, e, f, g, h]
 }
 
 // G[k], one round, on the words a1 and a0.
@@ -68,36 +76,31 @@ pub fn last_round(k: u32, a1: u32, a0: u32) -> (u32, u32)
     (round_function(k, a0) ^ a1, a0)
 }
 
-// E.
-fn forward(words: &[u32; 8], block: &mut [u8])
-    requires { length block.old ≡ 8 }
-    ensures { block.new ≡ enciphered words.now block.old }
+// G with each round key but the last, and G* with the last. key_at(i) is the key of round i + 1.
+fn composed<F: Fn(usize) -> u32>(key_at: F, block: [u8; 8]) -> [u8; 8]
+    requires { (i : ℕ) → i < 32 → F.pre key_at i }
+    ensures { (ks : List ℕ) → length ks ≡ 32 → ((i k : ℕ) → i < 32 → F.post key_at i k → k ≡ slice_index ks i) → result ≡ joined_halves (composed ks (halves block)) }
 {
-    let mut a1 = word_at(block, 0);
-    let mut a0 = word_at(block, 4);
+    let (mut a1, mut a0) = halves(block);
     for i in 0..31 {
-        let next = round(round_key(words, i), a1, a0);
-        a1 = next.0;
-        a0 = next.1;
+        (a1, a0) = round(key_at(i), a1, a0);
     }
-    let last = last_round(round_key(words, 31), a1, a0);
-    write_halves(block, last.0, last.1);
+    let (a1, a0) = last_round(key_at(31), a1, a0);
+    joined_halves(a1, a0)
+}
+
+// E.
+fn forward(words: &[u32; 8], block: [u8; 8]) -> [u8; 8]
+    ensures { result ≡ enciphered words.now block }
+{
+    composed(|i| round_key(words, i), block)
 }
 
 // D: E with the round keys reversed.
-fn inverse(words: &[u32; 8], block: &mut [u8])
-    requires { length block.old ≡ 8 }
-    ensures { block.new ≡ deciphered words.now block.old }
+fn inverse(words: &[u32; 8], block: [u8; 8]) -> [u8; 8]
+    ensures { result ≡ deciphered words.now block }
 {
-    let mut a1 = word_at(block, 0);
-    let mut a0 = word_at(block, 4);
-    for i in 0..31 {
-        let next = round(round_key(words, 31 - i), a1, a0);
-        a1 = next.0;
-        a0 = next.1;
-    }
-    let last = last_round(round_key(words, 0), a1, a0);
-    write_halves(block, last.0, last.1);
+    composed(|i| round_key(words, 31 - i), block)
 }
 
 impl Magma {
@@ -116,16 +119,7 @@ impl Magma {
 fn key_words(key: &[u8; 32]) -> [u32; 8]
     ensures { result ≡ key_words key.now }
 {
-    [
-        word_at(key, 0),
-        word_at(key, 4),
-        word_at(key, 8),
-        word_at(key, 12),
-        word_at(key, 16),
-        word_at(key, 20),
-        word_at(key, 24),
-        word_at(key, 28),
-    ]
+    from_fn(|i| word_at(key, 4 * i))
 }
 
 // The key of round i + 1 under a key of 32 bytes, for i below 32.
@@ -153,18 +147,14 @@ impl BlockCipher for Magma {
     }
 
     fn encipher(&mut self, block: &mut [u8]) -> Result<(), BlockFault> {
-        if block.len() != Self::N {
-            return Err(BlockFault::BlockLength);
-        }
-        forward(&self.key.words, block);
+        let a = block.as_mut_array().ok_or(BlockFault::BlockLength)?;
+        *a = forward(&self.key.words, *a);
         Ok(())
     }
 
     fn decipher(&mut self, block: &mut [u8]) -> Result<(), BlockFault> {
-        if block.len() != Self::N {
-            return Err(BlockFault::BlockLength);
-        }
-        inverse(&self.key.words, block);
+        let a = block.as_mut_array().ok_or(BlockFault::BlockLength)?;
+        *a = inverse(&self.key.words, *a);
         Ok(())
     }
 }

@@ -204,7 +204,7 @@ fn row_value(i: usize, x: u8) -> u8
     ROWS[i].values[x as usize]
 }
 
-// t by the rows, half byte by half byte from the highest down.
+// t by the rows, half byte by half byte from the highest down. The loop counts i, since i is the half byte's place in the word too.
 pub fn substitute(a: u32) -> u32
     ensures { result ≡ t a }
 {
@@ -227,8 +227,10 @@ fn wide_table() -> &'static [[u32; 256]; 4]
 pub fn round_function(k: u32, a: u32) -> u32
     ensures { result ≡ g k a }
 {
-    let x = a.wrapping_add(k);
+    let [high, upper, lower, low] = a.wrapping_add(k).to_be_bytes();
     let wide = wide_table();
-    let low = wide[0][(x & 255) as usize] ^ wide[1][((x >> 8) & 255) as usize];
-    low ^ wide[2][((x >> 16) & 255) as usize] ^ wide[3][((x >> 24) & 255) as usize]
+    wide[0][usize::from(low)]
+        ^ wide[1][usize::from(lower)]
+        ^ wide[2][usize::from(upper)]
+        ^ wide[3][usize::from(high)]
 }

@@ -1,34 +1,25 @@
-use mathlib.Core.Path.{◌≡◌, sym, ap, ap₂, ◌∙◌}
-use mathlib.Core.List.{map}
-use Prim.Native.Nat.{suc, ◌-◌}
-use native.Mathlib.Omega.{arith}
-use lib.ListN.{drop, get_or}
-use Rattle.kuznyechik_spec.specs.Kuznyechik.{add_key, block_of, decipher, inverse_l, inverse_s}
+use Rattle.std.proofs.Common.{◌≡◌, ◌∙◌, ℕ, List, reverse, get_or, take, sym, ap, arith, rules}
+use lib.Bits.{bit_xor}
+use Rattle.std.specs.List.{fold}
+use Rattle.std.proofs.lemmas.Iterator.Adapters.{YieldsList-from_rev_slice}
 use Rattle.block.proofs.Bytes.{block-from}
-use Rattle.kuznyechik_spec.proofs.Rounds.{decipher-more, decipher-last}
-use Rattle.kuznyechik_spec.proofs.Words.{block_of-number, block_of-xor, get_or-blocks, length-blocks}
+use Rattle.kuznyechik_spec.specs.Kuznyechik.{add_key, block_of, inverse_l, inverse_s}
+use Rattle.kuznyechik_spec.proofs.Chains.{fold-seen}
+use Rattle.kuznyechik_spec.proofs.Rounds.{others_reversed}
+use Rattle.kuznyechik_spec.proofs.Words.{block_of-number, block_of-xor, decipher-numbers}
 use Rattle.kuznyechik_tables.proofs.decipher_block.Goals as goal
-
-pub loop-i-init : goal.loop-i-init
-loop-i-init c =
-    let ks = c.args.keys.now in
-    let a = c.args.a.now in
-    let start : block_of c.to_number.result ≡ a = ap block_of c.to_number.ensures ∙ block_of-number a (block-from 16 a c.told-a c.fits-a) in
-    block_of-xor c.to_number.result (get_or ks 9 0) ∙ ap₂ add_key (sym (get_or-blocks ks 9 (omega arith))) start
-    ∙ decipher-last (map block_of ks) 9 a (length-blocks ks ∙ omega arith)
-
-pub loop-i-preserved : goal.loop-i-preserved
-loop-i-preserved c =
-    let ks = c.args.keys.now in
-    let rows = map block_of ks in
-    let i = c.loop-i.i in
-    let a = c.args.a.now in
-    let e : i ≡ suc (i - 1) = omega arith in
-    c.inverse_round-b.ensures
-    ∙ ap₂ (λ k x. add_key k (inverse_s (inverse_l x))) (sym (get_or-blocks ks (i - 1) (omega arith))) (c.loop-i.invariant ∙ ap (λ m. decipher (drop m rows) a) e)
-    ∙ decipher-more rows (i - 1) a (omega (arith, length-blocks ks))
 
 pub returns : goal.returns
 returns c =
-    let z : c.loop-i.i ≡ 0 = omega arith in
-    c.to_block.ensures ∙ c.loop-i.invariant ∙ ap (λ m. decipher (drop m (map block_of c.args.keys.now)) c.args.a.now) z
+    let ks = c.args.keys.now in
+    let a = c.args.a in
+    let first = bit_xor c.to_number.result (get_or ks 9 0) in
+    let start : block_of first ≡ add_key (block_of (get_or ks 9 0)) a =
+    block_of-xor c.to_number.result (get_or ks 9 0)
+    ∙ ap (add_key (block_of (get_or ks 9 0))) (ap block_of c.to_number.ensures ∙ block_of-number a (block-from 16 a (omega arith) (search rules))) in
+    let round : List ℕ → ℕ → List ℕ = λ b k. add_key (block_of k) (inverse_s (inverse_l b)) in
+    let rounds : block_of c.fold.result ≡ fold round (block_of first) (reverse (take 9 ks)) =
+    fold-seen _ block_of round first c.fold.result c.fold.ensures.ran (YieldsList-from_rev_slice (take 9 ks) cc) (λ b k r q e. search rules) in
+    c.to_block.ensures
+    ∙ decipher-numbers 9 ks a (block_of c.fold.result) (omega arith)
+    (rounds ∙ ap (λ b. fold round b (reverse (take 9 ks))) start ∙ ap (fold round (add_key (block_of (get_or ks 9 0)) a)) (sym (others_reversed 0 9 ks (omega arith))))

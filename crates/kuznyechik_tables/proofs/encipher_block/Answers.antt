@@ -1,33 +1,20 @@
-use mathlib.Core.Path.{◌≡◌, sym, ap, ◌∙◌}
-use mathlib.Core.List.{map}
-use Prim.Native.Nat.{◌+◌}
-use native.Mathlib.Omega.{arith}
-use lib.ListN.{drop, get_or}
-use Rattle.kuznyechik_spec.specs.Kuznyechik.{add_key, block_of, encipher, lsx}
+use Rattle.std.proofs.Common.{◌≡◌, get_or, take, ap, ◌∙◌, arith, rules}
+use Rattle.std.specs.List.{fold}
+use Rattle.std.proofs.lemmas.Iterator.{YieldsList-from_slice, YieldsList-from_take}
+use Rattle.std.proofs.lemmas.Iterator.Consumers.{YieldsList-at}
 use Rattle.block.proofs.Bytes.{block-from}
-use Rattle.kuznyechik_spec.proofs.Rounds.{encipher-more, encipher-last}
-use Rattle.kuznyechik_spec.proofs.Words.{block_of-number, block_of-xor, get_or-blocks, length-blocks}
+use Rattle.kuznyechik_spec.specs.Kuznyechik.{block_of, lsx}
+use Rattle.kuznyechik_spec.proofs.Chains.{fold-seen}
+use Rattle.kuznyechik_spec.proofs.Words.{block_of-number, block_of-xor, encipher-numbers}
 use Rattle.kuznyechik_tables.proofs.encipher_block.Goals as goal
-
-pub loop-i-init : goal.loop-i-init
-loop-i-init c =
-    let a = c.args.a.now in
-    ap (encipher (map block_of c.args.keys.now)) (ap block_of c.to_number-b.ensures ∙ block_of-number a (block-from 16 a c.told-a c.fits-a))
-
-pub loop-i-preserved : goal.loop-i-preserved
-loop-i-preserved c =
-    let ks = c.args.keys.now in
-    let rows = map block_of ks in
-    let i = c.loop-i.i in
-    let b = block_of c.loop-i.b in
-    ap (encipher (drop (i + 1) rows)) (c.lsx-b.ensures ∙ ap (λ k. lsx k b) (sym (get_or-blocks ks i (omega arith))))
-    ∙ encipher-more rows i b (omega (arith, length-blocks ks)) ∙ c.loop-i.invariant
 
 pub returns : goal.returns
 returns c =
     let ks = c.args.keys.now in
-    let rows = map block_of ks in
-    let b = block_of c.loop-i.b in
-    let nine : 9 ≡ c.loop-i.i = omega arith in
-    c.to_block.ensures ∙ block_of-xor c.loop-i.b (get_or ks 9 0) ∙ ap (λ k. add_key k b) (sym (get_or-blocks ks 9 (omega arith)))
-    ∙ encipher-last rows 9 b (length-blocks ks ∙ omega arith) ∙ ap (λ i. encipher (drop i rows) b) nine ∙ c.loop-i.invariant
+    let a = c.args.a in
+    let start : block_of c.to_number.result ≡ a = ap block_of c.to_number.ensures ∙ block_of-number a (block-from 16 a (omega arith) (search rules)) in
+    let rounds : block_of c.fold-b.result ≡ fold (λ b k. lsx (block_of k) b) (block_of c.to_number.result) (take 9 ks) =
+    fold-seen _ block_of (λ b k. lsx (block_of k) b) c.to_number.result c.fold-b.result c.fold-b.ensures.ran
+    (YieldsList-from_take 9 (YieldsList-at c.take.ensures.source (YieldsList-from_slice ks cc)) c.take.ensures.count) (λ b k r q e. search rules) in
+    c.to_block.ensures ∙ block_of-xor c.fold-b.result (get_or ks 9 0)
+    ∙ encipher-numbers 9 ks a (block_of c.fold-b.result) (omega arith) (rounds ∙ ap (λ b. fold (λ b k. lsx (block_of k) b) b (take 9 ks)) start)

@@ -1,33 +1,12 @@
--- D round by round.
-use Rattle.std.proofs.Common.{◌≡◌, ℕ, ◌+◌, reverse, length, drop, sym, ap, ◌∙◌, arith, rules}
-use Rattle.magma.specs.Magma.{composed, halves, joined_halves, last_g, round_g, round_keys, deciphered}
-use Rattle.magma.specs.Rounds.{more, last}
+-- The round keys reversed.
+use Rattle.std.proofs.Common.{◌≡◌, ◌-◌, reverse, get_or, ◌∙◌, rules}
+use Rattle.magma.specs.Magma.{round_keys, deciphered}
 use Rattle.magma.specs.Bytes.{reversed-key, reversed-length}
 use Rattle.magma.proofs.inverse.Goals as goal
-
-pub loop-i-init : goal.loop-i-init
-unfolding halves
-loop-i-init c = search rules
-
-pub loop-i-preserved : goal.loop-i-preserved
-loop-i-preserved c =
-    let ws = c.args.words.now in
-    let ks = reverse (round_keys ws) in
-    let i = c.loop-i.i in
-    let n : length ks ≡ 32 = reversed-length ws c.told-words in
-    ap (composed (drop (i + 1) ks))
-    (c.round-next.ensures ∙ ap (λ (k : ℕ). round_g k (c.loop-i.a1, c.loop-i.a0)) (c.round_key.ensures ∙ reversed-key ws i c.told-words (omega arith)))
-    ∙ sym (more i ks (c.loop-i.a1, c.loop-i.a0) (omega arith)) ∙ c.loop-i.invariant
 
 pub returns : goal.returns
 unfolding deciphered
 returns c =
     let ws = c.args.words.now in
-    let ks = reverse (round_keys ws) in
-    let n : length ks ≡ 32 = reversed-length ws c.told-words in
-    let at : c.loop-i.i ≡ 31 = omega arith in
-    let whole : composed (drop 31 ks) (c.loop-i.a1, c.loop-i.a0) ≡ composed ks (halves c.args.block.now) =
-    ap (λ (j : ℕ). composed (drop j ks) (c.loop-i.a1, c.loop-i.a0)) (sym at) ∙ c.loop-i.invariant in
-    c.write_halves.ensures
-    ∙ ap joined_halves (c.last_round-last.ensures ∙ ap (λ (k : ℕ). last_g k (c.loop-i.a1, c.loop-i.a0)) (c.round_key-2.ensures ∙ reversed-key ws 31 c.told-words (omega arith)))
-    ∙ ap joined_halves (sym (last 31 ks (c.loop-i.a1, c.loop-i.a0) (omega arith)) ∙ whole)
+    c.composed.ensures (reverse (round_keys ws)) (reversed-length ws c.told-words)
+    (λ i k l e. let key : k ≡ get_or (round_keys ws) (31 - i) 0 = search rules in key ∙ reversed-key ws i c.told-words l)

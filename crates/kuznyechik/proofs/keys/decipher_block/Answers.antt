@@ -1,27 +1,14 @@
-use mathlib.Core.Path.{◌≡◌, ap, ◌∙◌}
-use Prim.Native.Nat.{suc, ◌-◌}
-use native.Mathlib.Omega.{arith}
-use lib.ListN.{drop, get_or}
-use mathlib.Core.List.{[]}
-use Rattle.kuznyechik_spec.specs.Kuznyechik.{decipher, add_key, inverse_s, inverse_l}
-use Rattle.kuznyechik_spec.proofs.Rounds.{decipher-more, decipher-last}
+use Rattle.std.proofs.Common.{◌≡◌, reverse, drop, ap, ◌∙◌, arith, rules}
+use Rattle.std.specs.List.{fold}
+use Rattle.std.proofs.lemmas.Iterator.Adapters.{YieldsList-from_rev_slice, YieldsList-from_skip}
+use Rattle.std.proofs.lemmas.Iterator.Consumers.{YieldsList-at, fold_from_yields_List}
+use Rattle.kuznyechik_spec.proofs.Rounds.{inverse_round, decipher-folded}
 use Rattle.kuznyechik.proofs.keys.decipher_block.Goals as goal
-
-pub loop-i-init : goal.loop-i-init
-loop-i-init c = λ a from. from ∙ decipher-last c.args.keys.now.keys 9 a (omega arith)
-
-pub loop-i-preserved : goal.loop-i-preserved
-loop-i-preserved c =
-    let ks = c.args.keys.now.keys in
-    let i = c.loop-i.i in
-    let e : i ≡ suc (i - 1) = omega arith in
-    λ a from.
-    c.add_key-next.ensures
-    ∙ ap (λ x. add_key (get_or ks (i - 1) []) x) (c.inverse_s.ensures ∙ ap inverse_s (c.inverse_l.ensures ∙ ap inverse_l (c.loop-i.invariant a from ∙ ap (λ m. decipher (drop m ks) a) e)))
-    ∙ decipher-more ks (i - 1) a (omega arith)
 
 pub returns : goal.returns
 returns c =
     let ks = c.args.keys.now.keys in
-    let z : c.loop-i.i ≡ 0 = omega arith in
-    c.loop-i.invariant c.args.a c.add_key-b.ensures ∙ ap (λ m. decipher (drop m ks) c.args.a) z
+    let rounds : c.fold.result ≡ fold inverse_round c.add_key-b.result (drop 1 (reverse ks)) =
+    fold_from_yields_List _ inverse_round c.add_key-b.result c.fold.result c.fold.ensures.ran
+    (YieldsList-from_skip 1 (YieldsList-at c.skip.ensures.source (YieldsList-from_rev_slice ks cc)) c.skip.ensures.count) (λ b k r q e. search rules) in
+    rounds ∙ ap (λ b. fold inverse_round b (drop 1 (reverse ks))) c.add_key-b.ensures ∙ decipher-folded 9 ks c.args.a (omega arith)

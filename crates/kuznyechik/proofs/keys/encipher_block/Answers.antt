@@ -1,18 +1,15 @@
-use mathlib.Core.Path.{◌≡◌, ap, ◌∙◌}
-use Prim.Native.Nat.{◌+◌}
-use native.Mathlib.Omega.{arith}
-use lib.ListN.{drop}
-use Rattle.kuznyechik_spec.specs.Kuznyechik.{encipher}
-use Rattle.kuznyechik_spec.proofs.Rounds.{encipher-more, encipher-last}
+use Rattle.std.proofs.Common.{◌≡◌, [], get_or, take, ap, ◌∙◌, arith, rules}
+use Rattle.std.specs.List.{fold}
+use Rattle.std.proofs.lemmas.Iterator.{YieldsList-from_slice, YieldsList-from_take}
+use Rattle.std.proofs.lemmas.Iterator.Consumers.{YieldsList-at, fold_from_yields_List}
+use Rattle.kuznyechik_spec.specs.Kuznyechik.{add_key}
+use Rattle.kuznyechik_spec.proofs.Rounds.{round, encipher-folded}
 use Rattle.kuznyechik.proofs.keys.encipher_block.Goals as goal
-
-pub loop-i-preserved : goal.loop-i-preserved
-loop-i-preserved c =
-    ap (encipher (drop (c.loop-i.i + 1) c.args.keys.now.keys)) c.lsx-next.ensures
-    ∙ encipher-more c.args.keys.now.keys c.loop-i.i c.loop-i.b (omega arith) ∙ c.loop-i.invariant
 
 pub returns : goal.returns
 returns c =
     let ks = c.args.keys.now.keys in
-    let nine : 9 ≡ c.loop-i.i = omega arith in
-    c.add_key.ensures ∙ encipher-last ks 9 c.loop-i.b (omega arith) ∙ ap (λ i. encipher (drop i ks) c.loop-i.b) nine ∙ c.loop-i.invariant
+    let rounds : c.fold-b.result ≡ fold round c.args.a (take 9 ks) =
+    fold_from_yields_List _ round c.args.a c.fold-b.result c.fold-b.ensures.ran
+    (YieldsList-from_take 9 (YieldsList-at c.take.ensures.source (YieldsList-from_slice ks cc)) c.take.ensures.count) (λ b k r q e. search rules) in
+    c.add_key.ensures ∙ ap (add_key (get_or ks 9 [])) rounds ∙ encipher-folded 9 ks c.args.a (omega arith)

@@ -1,17 +1,7 @@
-use mathlib.Core.Path.{refl, sym, ap, ◌∙◌}
-use Prim.Native.Nat.{◌+◌, ◌-◌}
-use Rattle.kuznyechik_spec.specs.Kuznyechik.{repeated, inverse_r, inverse_l}
-use Rattle.kuznyechik_spec.proofs.Loops.{repeated-more, repeated-all}
+use Rattle.std.proofs.Common.{rules}
+use Rattle.kuznyechik_spec.specs.Kuznyechik.{inverse_r, inverse_l}
 use Rattle.kuznyechik.proofs.transformations.inverse_l.Goals as goal
 
-pub loop-i-init : goal.loop-i-init
-unfolding inverse_l
-loop-i-init c = refl
-
-pub loop-i-preserved : goal.loop-i-preserved
-loop-i-preserved c =
-    ap (repeated (16 - (c.loop-i._i + 1)) inverse_r) c.inverse_r-next.ensures
-    ∙ repeated-more c.loop-i._i 16 inverse_r c.loop-i.b c.loop-i-test.true ∙ c.loop-i.invariant
-
 pub returns : goal.returns
-returns c = sym (repeated-all c.loop-i._i 16 inverse_r c.loop-i.b c.loop-i-test.false) ∙ c.loop-i.invariant
+unfolding inverse_l
+returns c = c.sixteen_steps.ensures inverse_r (λ x y k. search rules)

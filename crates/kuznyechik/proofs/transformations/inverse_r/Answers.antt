@@ -7,5 +7,5 @@ use Rattle.kuznyechik.proofs.transformations.inverse_r.Goals as goal
 
 pub returns : goal.returns
 returns c =
-    ap (λ l. set l 15 c.linear-x.result) c.rotate_left.ensures.after
-    ∙ rotated-left c.linear-x.result c.args.a (omega arith) (c.linear-x.ensures ∙ ap linear c.rotate_left.ensures.after)
+    ap (λ l. set l 15 c.linear.result) c.rotate_left.ensures.after
+    ∙ rotated-left c.linear.result c.args.a (omega arith) (c.linear.ensures ∙ ap linear c.rotate_left.ensures.after)

@@ -4,5 +4,5 @@ use lib.Bits.{bit_xor}
 use Rattle.kuznyechik_spec.specs.Field.{multiply_terms, multiply}
 use Rattle.kuznyechik.proofs.transformations.multiply.Given as goal
 
-abbrev pub invariant-loop-i : goal.invariant-loop-i
-invariant-loop-i l = bit_xor l.sum (multiply_terms (8 - l._i) l.rest l.term) ≡ multiply l.c l.a
+abbrev pub invariant-loop : goal.invariant-loop
+invariant-loop l = bit_xor l.sum (multiply_terms (8 - l.counter) l.rest l.term) ≡ multiply l.c l.a

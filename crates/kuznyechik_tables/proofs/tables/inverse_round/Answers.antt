@@ -17,5 +17,5 @@ returns c =
     let whole : Block 16 (inverse_s (inverse_l a)) = inverse_s-block (inverse_l a) (inverse_l-block a (block_of-block c.args.state)) in
     block_of-xor c.to_number.result c.args.key
     ∙ ap (add_key (block_of c.args.key))
-    (ap block_of (c.to_number.ensures ∙ ap (number 0) (c.inverse_s-bytes.ensures ∙ ap inverse_s (c.to_block-2.ensures ∙ mixed)))
+    (ap block_of (c.to_number.ensures ∙ ap (number 0) (c.inverse_s.ensures ∙ ap inverse_s (c.to_block-2.ensures ∙ mixed)))
     ∙ block_of-number (inverse_s (inverse_l a)) whole)

@@ -1,15 +1,15 @@
-use mathlib.Core.Path.{refl, sym, ◌∙◌}
-use native.Mathlib.Omega.{arith}
-use Rattle.kuznyechik_spec.specs.Tables.{lookup_sum}
-use Rattle.kuznyechik_spec.proofs.Lookup.{lookup-more, lookup-all}
+use Rattle.std.proofs.Common.{get_or, ◌∙◌, arith, rules}
+use lib.Bits.{bit_xor}
+use Rattle.std.proofs.lemmas.Iterator.{YieldsList-from_slice, YieldsList-from_zip}
+use Rattle.std.proofs.lemmas.Iterator.Consumers.{YieldsList-at, fold_from_yields_List}
+use Rattle.kuznyechik_spec.proofs.Lookup.{lookup-folded}
 use Rattle.kuznyechik_tables.proofs.tables.lookup.Goals as goal
 
-pub loop-p-init : goal.loop-p-init
-unfolding lookup_sum
-loop-p-init c = refl
-
-pub loop-p-preserved : goal.loop-p-preserved
-loop-p-preserved c = lookup-more c.args.table.now c.args.bytes c.loop-p.p c.loop-p.sum (omega arith) ∙ c.loop-p.invariant
-
 pub returns : goal.returns
-returns c = sym (lookup-all c.args.table.now c.args.bytes c.loop-p.p c.loop-p.sum (omega arith)) ∙ c.loop-p.invariant
+returns c =
+    let t = c.args.table.now in
+    let a = c.args.bytes in
+    fold_from_yields_List _ (λ s y. bit_xor s (get_or y.0 y.1 0)) 0 c.fold.result c.fold.ensures.ran
+    (YieldsList-from_zip (YieldsList-at c.zip.ensures.first (YieldsList-from_slice t cc)) (YieldsList-at c.zip.ensures.second (YieldsList-from_slice a cc)))
+    (λ s y r q k. search rules)
+    ∙ lookup-folded t a (omega arith)

@@ -1,7 +1,7 @@
--- The bytes written are those of the two words.
+-- The bytes of the two words.
 use Rattle.std.proofs.Common.{rules}
 use Rattle.magma.specs.Magma.{joined_halves}
-use Rattle.magma.proofs.write_halves.Goals as goal
+use Rattle.magma.proofs.joined_halves.Goals as goal
 
 pub returns : goal.returns
 unfolding joined_halves
