@@ -24,8 +24,7 @@ impl fmt::Display for Answer {
             }
             Err(fault) => {
                 let code = fault.code();
-                let (layer, number, place) = (code.layer, code.number, code.place);
-                write!(f, "no {layer} {number} {place}")
+                write!(f, "no {code}")
             }
         }
     }
