@@ -114,6 +114,7 @@ fn changes_as(marks: &[u8], bytes: &[u8], changed: &mut [u8]) -> bool
     if marks.len() / 256 != bytes.len() {
         return false;
     }
+    // by number: std says nothing of the k-th chunk in a loop over chunks_exact, and the proof of that form did not close
     for at in 0..bytes.len() {
         let first = 256 * at;
         if !byte_changes_as(&marks[first..first + 256], at, bytes, changed) {
