@@ -1,9 +1,11 @@
 // Tables of cases: what a line is, and a run over all of them.
 #![tactic(auto)]
 
-ghost use Rattle.std.specs.Prelude.{◌≡◌, ℕ, ◌+◌, ◌-◌, ◌^◌, ◌≤◌, min, IfOk, if◌then◌else◌, ◌==◌};
-ghost use Rattle.test_tables.specs.Lines.{Reads, passed_over};
+ghost use Rattle.std.specs.Prelude.{◌≡◌, ◌≢◌, ◌↔◌, ℕ, ◌+◌, ◌-◌, ◌^◌, ◌≤◌, min, IfOk, MatchOption, if◌then◌else◌};
+ghost use Rattle.test_tables.specs.Lines.{Reads, cipher_name, passed_over};
+ghost use Rattle.sheet_format.specs.declared.CipherKind.{CipherKind};
 
+use sheet_format::CipherKind;
 use std::io::{BufRead, BufReader};
 
 // What was found of a case.
@@ -22,6 +24,16 @@ impl Verdict {
             Verdict::Agrees
         } else {
             Verdict::Differs
+        }
+    }
+
+    // The verdict on two cases together: they agree only if both do.
+    pub fn and(self, other: Verdict) -> Verdict
+        ensures { result ≡ Verdict.Agrees ↔ (self ≡ Verdict.Agrees) × (other ≡ Verdict.Agrees) }
+    {
+        match self {
+            Verdict::Agrees => other,
+            Verdict::Differs => Verdict::Differs,
         }
     }
 }
@@ -55,6 +67,17 @@ pub fn read_case<'a>(line: &'a str) -> Result<Option<Case<'a>>, NoCase>
     match line.split_once(" | ") {
         Some((answer, input)) => Ok(Some(Case { answer, input })),
         None => Err(NoCase),
+    }
+}
+
+// The cipher of that name.
+pub fn read_cipher(name: &str) -> Option<CipherKind>
+    ensures { MatchOption result ((c : CipherKind) → name.now ≢ cipher_name c) (λ c. name.now ≡ cipher_name c) }
+{
+    match name {
+        "kuz" => Some(CipherKind::Kuznyechik),
+        "magma" => Some(CipherKind::Magma),
+        _ => None,
     }
 }
 
