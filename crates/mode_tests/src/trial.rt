@@ -5,11 +5,11 @@ ghost use Rattle.mode_tests.specs.Agreement.{ConfirmsMac, ConfirmsSealed, Opened
 ghost use Rattle.mode_tests.specs.Runs.{SealedAs};
 
 use super::inputs::{MacInput, SealedInput};
-use super::table::Mode;
 use super::tagged::Sealed;
 use super::{cbc_runs, ctr_runs, macs};
 use anyhow::anyhow;
 use block::BlockCipher;
+use sheet_format::Mode;
 use std::alloc::Global;
 
 // Whether the text is sealed as the table says, its tag is that of the table, and the sealed text opens to it in both cuttings.

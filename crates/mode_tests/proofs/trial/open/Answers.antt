@@ -1,6 +1,6 @@
 use Rattle.std.proofs.Common.{vec_items, sym, subst}
 use Rattle.mode_tests.specs.Agreement.{OpenedBy}
-use Rattle.mode_tests.specs.declared.table.Mode.{Mode}
+use Rattle.sheet_format.specs.declared.Mode.{Mode}
 use Rattle.mode_tests.proofs.Feeding.{same_self}
 use Rattle.mode_tests.proofs.trial.open.Goals as goal
 

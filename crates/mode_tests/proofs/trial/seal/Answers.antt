@@ -1,7 +1,7 @@
 use Rattle.std.proofs.Common.{IfOk, sym, subst}
 use Rattle.mode_tests.specs.Agreement.{sealed_by}
 use Rattle.mode_tests.specs.Runs.{SealedAs}
-use Rattle.mode_tests.specs.declared.table.Mode.{Mode}
+use Rattle.sheet_format.specs.declared.Mode.{Mode}
 use Rattle.mode_tests.proofs.trial.seal.Goals as goal
 
 pub returns-in-Ctr : goal.returns-in-Ctr
