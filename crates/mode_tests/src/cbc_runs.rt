@@ -1,5 +1,5 @@
 // cbc over a text that is fed in pieces.
-ghost use Rattle.std.specs.Prelude.{◌≡◌, true, take, IfSome, IfOk, OnOk};
+ghost use Rattle.std.specs.Prelude.{◌≡◌, take, IfOk, OnOk};
 ghost use Rattle.block.specs.Blocks.{Same};
 ghost use Rattle.modes_spec.specs.Cbc.{cbc_sealed};
 ghost use Rattle.mode_tests.specs.Runs.{CbcEnds, CbcGoesOn, OpenedAs, OpeningEnds, OpeningGoesOn, SealedAs};
@@ -8,9 +8,9 @@ use super::pieces;
 use super::tagged::{Sealed, Tagged};
 use anyhow::anyhow;
 use block::BlockCipher;
-use modes::cbc::CbcSealer;
+use modes::cbc::{CbcFault, CbcSealer};
 use modes::opening::CbcOpener;
-use std::alloc::Global;
+use std::alloc::{AllocError, Global};
 
 // Seals one piece, and takes what became whole into the MAC.
 fn seal_piece<C: BlockCipher, T: BlockCipher>(
@@ -81,47 +81,62 @@ pub fn seal<C: BlockCipher, T: BlockCipher>(
     Ok(out.finish(tag_cipher))
 }
 
-// Opens one piece of a sealed text; answers whether it is accepted.
+// Why a sealed text is not opened.
+#[derive(Clone, Copy)]
+pub enum OpenError {
+    Refused(CbcFault),
+    OutOfMemory(AllocError),
+}
+
+impl From<CbcFault> for OpenError {
+    fn from(fault: CbcFault) -> OpenError {
+        OpenError::Refused(fault)
+    }
+}
+
+impl From<AllocError> for OpenError {
+    fn from(error: AllocError) -> OpenError {
+        OpenError::OutOfMemory(error)
+    }
+}
+
+// Opens one piece of a sealed text.
 fn open_piece<C: BlockCipher>(
     heap: Global,
     cipher: &mut C,
     opener: &mut CbcOpener,
     out: &mut Vec<u8>,
     piece: &[u8],
-) -> anyhow::Result<bool>
-    ensures opened { IfOk result (λ accepted. (accepted ≡ true → OpeningGoesOn (C.BlockCipher.meaning cipher.old) piece.now opener.old out.old.items opener.new out.new.items)) }
+) -> Result<(), OpenError>
+    ensures opened { OnOk result (OpeningGoesOn (C.BlockCipher.meaning cipher.old) piece.now opener.old out.old.items opener.new out.new.items) }
     ensures same { Same (C.BlockCipher.meaning cipher.old) (C.BlockCipher.meaning cipher.new) }
 {
     let mut blocks = vec![in heap; 0u8; piece.len().saturating_add(16)]?;
-    let Ok(count) = opener.take(cipher, piece, blocks.as_mut_slice()) else {
-        return Ok(false);
-    };
+    let count = opener.take(cipher, piece, blocks.as_mut_slice())?;
     blocks.truncate(count);
     out.extend_from_slice(blocks.as_slice())?;
-    Ok(true)
+    Ok(())
 }
 
-// Opens the last block, of which `rest` bytes are text; answers whether it is accepted.
+// Opens the last block, of which `rest` bytes are text.
 fn open_end<C: BlockCipher>(
     heap: Global,
     cipher: &mut C,
     opener: CbcOpener,
     rest: usize,
     out: &mut Vec<u8>,
-) -> anyhow::Result<bool>
-    ensures opened { IfOk result (λ accepted. (accepted ≡ true → OpeningEnds (C.BlockCipher.meaning cipher.old) opener rest out.old.items out.new.items)) }
+) -> Result<(), OpenError>
+    ensures opened { OnOk result (OpeningEnds (C.BlockCipher.meaning cipher.old) opener rest out.old.items out.new.items) }
     ensures same { Same (C.BlockCipher.meaning cipher.old) (C.BlockCipher.meaning cipher.new) }
 {
-    let Ok(last) = opener.finish(cipher, rest) else {
-        return Ok(false);
-    };
+    let last = opener.finish(cipher, rest)?;
     let mut bytes = Vec::from_slice(heap, &last)?;
     bytes.truncate(rest);
     out.extend_from_slice(bytes.as_slice())?;
-    Ok(true)
+    Ok(())
 }
 
-// Opens a sealed text of which so many blocks stand before the last, and `rest` bytes of the last are text. None if it is refused.
+// Opens a sealed text of which so many blocks stand before the last, and `rest` bytes of the last are text.
 pub fn open<C: BlockCipher>(
     heap: Global,
     cipher: &mut C,
@@ -130,8 +145,8 @@ pub fn open<C: BlockCipher>(
     sealed: &[u8],
     before: u32,
     rest: usize,
-) -> anyhow::Result<Option<Vec<u8>>>
-    ensures opened { IfOk result (λ o. IfSome o (λ v. OpenedAs (C.BlockCipher.meaning cipher.old) start.now before rest sealed.now v.items)) }
+) -> Result<Vec<u8>, OpenError>
+    ensures opened { IfOk result (λ v. OpenedAs (C.BlockCipher.meaning cipher.old) start.now before rest sealed.now v.items) }
     ensures same { Same (C.BlockCipher.meaning cipher.old) (C.BlockCipher.meaning cipher.new) }
 {
     let mut opener = CbcOpener::new(start, before);
@@ -139,16 +154,10 @@ pub fn open<C: BlockCipher>(
     let mut left = sealed;
     for cut in cutting {
         let (piece, tail) = pieces::cut_off(left, *cut);
-        if !open_piece(heap, cipher, &mut opener, &mut out, piece)? {
-            return Ok(None);
-        }
+        open_piece(heap, cipher, &mut opener, &mut out, piece)?;
         left = tail;
     }
-    if !open_piece(heap, cipher, &mut opener, &mut out, left)? {
-        return Ok(None);
-    }
-    if !open_end(heap, cipher, opener, rest, &mut out)? {
-        return Ok(None);
-    }
-    Ok(Some(out))
+    open_piece(heap, cipher, &mut opener, &mut out, left)?;
+    open_end(heap, cipher, opener, rest, &mut out)?;
+    Ok(out)
 }

@@ -4,6 +4,7 @@ ghost use Rattle.block.specs.Blocks.{Same};
 ghost use Rattle.mode_tests.specs.Agreement.{ConfirmsMac, ConfirmsSealed, OpenedBy, sealed_by};
 ghost use Rattle.mode_tests.specs.Runs.{SealedAs};
 
+use super::cbc_runs::OpenError;
 use super::inputs::{MacInput, SealedInput};
 use super::tagged::Sealed;
 use super::{cbc_runs, ctr_runs, macs};
@@ -72,15 +73,14 @@ fn open<C: BlockCipher, T: BlockCipher>(
             let Sealed { bytes, tag: _ } = outcome;
             Ok(Some(bytes))
         }
-        Mode::Cbc => cbc_runs::open(
-            heap,
-            cipher,
-            start,
-            cutting,
-            sealed,
-            extent.before,
-            extent.rest,
-        ),
+        Mode::Cbc => {
+            let Extent { before, rest } = extent;
+            match cbc_runs::open(heap, cipher, start, cutting, sealed, before, rest) {
+                Ok(bytes) => Ok(Some(bytes)),
+                Err(OpenError::Refused(_)) => Ok(None),
+                Err(OpenError::OutOfMemory(error)) => Err(error.into()),
+            }
+        }
     }
 }
 
