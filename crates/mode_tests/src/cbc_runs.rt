@@ -4,7 +4,7 @@ ghost use Rattle.block.specs.Blocks.{Same};
 ghost use Rattle.modes_spec.specs.Cbc.{cbc_sealed};
 ghost use Rattle.mode_tests.specs.Runs.{CbcEnds, CbcGoesOn, OpenedAs, OpeningEnds, OpeningGoesOn, SealedAs};
 
-use super::pieces;
+use super::pieces::{Feed, cut_off};
 use super::tagged::{Sealed, Tagged};
 use anyhow::anyhow;
 use block::BlockCipher;
@@ -60,25 +60,30 @@ pub fn seal<C: BlockCipher, T: BlockCipher>(
     heap: Global,
     cipher: &mut C,
     tag_cipher: &mut T,
-    start: &[u8; 16],
-    cutting: &[u8],
-    text: &[u8],
+    feed: Feed<'_>,
 ) -> anyhow::Result<Sealed>
-    ensures sealed { IfOk result (SealedAs (C.BlockCipher.meaning cipher.old) (T.BlockCipher.meaning tag_cipher.old) (λ m. cbc_sealed m (take m.size start.now) text.now)) }
+    ensures sealed { IfOk result (SealedAs (C.BlockCipher.meaning cipher.old) (T.BlockCipher.meaning tag_cipher.old) (λ m. cbc_sealed m (take m.size feed.entry.start.now) feed.entry.text.now)) }
     ensures same { Same (C.BlockCipher.meaning cipher.old) (C.BlockCipher.meaning cipher.new) }
     ensures tag_same { Same (T.BlockCipher.meaning tag_cipher.old) (T.BlockCipher.meaning tag_cipher.new) }
 {
-    let mut sealer = CbcSealer::new(start);
+    let mut sealer = CbcSealer::new(feed.start);
     let mut out = Tagged::new(heap);
-    let mut rest = text;
-    for cut in cutting {
-        let (piece, tail) = pieces::cut_off(rest, *cut);
+    let mut rest = feed.text;
+    for cut in feed.cutting {
+        let (piece, tail) = cut_off(rest, *cut);
         seal_piece(heap, cipher, tag_cipher, &mut sealer, &mut out, piece)?;
         rest = tail;
     }
     seal_piece(heap, cipher, tag_cipher, &mut sealer, &mut out, rest)?;
     seal_end(heap, cipher, tag_cipher, sealer, &mut out)?;
     Ok(out.finish(tag_cipher))
+}
+
+// A sealed text of which so many blocks stand before the last, and `rest` bytes of the last are text.
+#[derive(Clone, Copy)]
+pub struct Extent {
+    pub before: u32,
+    pub rest: usize,
 }
 
 // Why a sealed text is not opened.
@@ -136,28 +141,25 @@ fn open_end<C: BlockCipher>(
     Ok(())
 }
 
-// Opens a sealed text of which so many blocks stand before the last, and `rest` bytes of the last are text.
+// Opens a sealed text of that extent.
 pub fn open<C: BlockCipher>(
     heap: Global,
     cipher: &mut C,
-    start: &[u8; 16],
-    cutting: &[u8],
-    sealed: &[u8],
-    before: u32,
-    rest: usize,
+    feed: Feed<'_>,
+    extent: Extent,
 ) -> Result<Vec<u8>, OpenError>
-    ensures opened { IfOk result (λ v. OpenedAs (C.BlockCipher.meaning cipher.old) start.now before rest sealed.now v.items) }
+    ensures opened { IfOk result (λ v. OpenedAs (C.BlockCipher.meaning cipher.old) feed.entry.start.now extent.before extent.rest feed.entry.text.now v.items) }
     ensures same { Same (C.BlockCipher.meaning cipher.old) (C.BlockCipher.meaning cipher.new) }
 {
-    let mut opener = CbcOpener::new(start, before);
+    let mut opener = CbcOpener::new(feed.start, extent.before);
     let mut out = Vec::new(heap);
-    let mut left = sealed;
-    for cut in cutting {
-        let (piece, tail) = pieces::cut_off(left, *cut);
+    let mut left = feed.text;
+    for cut in feed.cutting {
+        let (piece, tail) = cut_off(left, *cut);
         open_piece(heap, cipher, &mut opener, &mut out, piece)?;
         left = tail;
     }
     open_piece(heap, cipher, &mut opener, &mut out, left)?;
-    open_end(heap, cipher, opener, rest, &mut out)?;
+    open_end(heap, cipher, opener, extent.rest, &mut out)?;
     Ok(out)
 }
