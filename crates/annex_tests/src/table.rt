@@ -1,50 +1,28 @@
 // The lines of the table.
 ghost use Rattle.std.specs.Prelude.{◌≡◌, IfSome};
-ghost use Rattle.annex_tests.specs.Entries.{Reads, name_of};
+ghost use Rattle.annex_tests.specs.Entries.{Reads, ValueIn, name_of};
 
-// A transformation of the standard.
+use test_tables::{NoCase, is_comment};
+
+// A transformation of the standard: of Kuznyechik as far as its round keys, then of Magma.
 #[derive(Clone, Copy)]
 pub enum Step {
-    Block(BlockStep),
-    Keyed(KeyedStep),
-    IterationConstant,
-    FeistelRound,
-    RoundKey,
-    Word(WordStep),
-    MagmaRoundKey,
-    Round(RoundStep),
-}
-
-// Of a block of Kuznyechik.
-#[derive(Clone, Copy)]
-pub enum BlockStep {
     S,
     InverseS,
     R,
     L,
     InverseL,
-}
-
-// Of a key and a block of Kuznyechik.
-#[derive(Clone, Copy)]
-pub enum KeyedStep {
     X,
     Lsx,
     InverseLsx,
-}
-
-// Of words of Magma.
-#[derive(Clone, Copy)]
-pub enum WordStep {
+    IterationConstant,
+    FeistelRound,
+    RoundKey,
     T,
     G,
-}
-
-// A round of Magma.
-#[derive(Clone, Copy)]
-pub enum RoundStep {
-    Inner,
-    Last,
+    MagmaRoundKey,
+    InnerRound,
+    LastRound,
 }
 
 // What the standard's example has for a transformation, in hexadecimal digits.
@@ -55,56 +33,54 @@ pub struct Value<'a> {
     pub output: &'a str,
 }
 
-// What a line of the table is.
-#[derive(Clone, Copy)]
-pub enum Entry<'a> {
-    Comment,
-    Example(Value<'a>),
-    Neither,
-}
-
 fn read_step(name: &str) -> Option<Step>
     ensures { IfSome result (λ s. name.now ≡ name_of s) }
 {
     match name {
-        "kuz-S" => Some(Step::Block(BlockStep::S)),
-        "kuz-inverse-S" => Some(Step::Block(BlockStep::InverseS)),
-        "kuz-R" => Some(Step::Block(BlockStep::R)),
-        "kuz-L" => Some(Step::Block(BlockStep::L)),
-        "kuz-inverse-L" => Some(Step::Block(BlockStep::InverseL)),
-        "kuz-X" => Some(Step::Keyed(KeyedStep::X)),
-        "kuz-lsx" => Some(Step::Keyed(KeyedStep::Lsx)),
-        "kuz-inverse-lsx" => Some(Step::Keyed(KeyedStep::InverseLsx)),
+        "kuz-S" => Some(Step::S),
+        "kuz-inverse-S" => Some(Step::InverseS),
+        "kuz-R" => Some(Step::R),
+        "kuz-L" => Some(Step::L),
+        "kuz-inverse-L" => Some(Step::InverseL),
+        "kuz-X" => Some(Step::X),
+        "kuz-lsx" => Some(Step::Lsx),
+        "kuz-inverse-lsx" => Some(Step::InverseLsx),
         "kuz-C" => Some(Step::IterationConstant),
         "kuz-F" => Some(Step::FeistelRound),
         "kuz-K" => Some(Step::RoundKey),
-        "magma-t" => Some(Step::Word(WordStep::T)),
-        "magma-g" => Some(Step::Word(WordStep::G)),
+        "magma-t" => Some(Step::T),
+        "magma-g" => Some(Step::G),
         "magma-K" => Some(Step::MagmaRoundKey),
-        "magma-round" => Some(Step::Round(RoundStep::Inner)),
-        "magma-last" => Some(Step::Round(RoundStep::Last)),
+        "magma-round" => Some(Step::InnerRound),
+        "magma-last" => Some(Step::LastRound),
         _ => None,
     }
 }
 
-pub fn read_entry<'a>(line: &'a str) -> Entry<'a>
+// Three words.
+#[tactic(auto, using(std::proofs::lemmas::Str::Pattern::split_text_parts))]
+fn read_value<'a>(line: &'a str) -> Option<Value<'a>>
+    ensures { IfSome result (ValueIn line.now) }
+{
+    let (name, words) = line.split_once(" ")?;
+    let step = read_step(name)?;
+    let (input, output) = words.split_once(" ")?;
+    Some(Value {
+        step,
+        input,
+        output,
+    })
+}
+
+// The value that stands in a line, if it is no comment.
+pub fn read_entry<'a>(line: &'a str) -> Result<Option<Value<'a>>, NoCase>
     ensures { Reads line.now result }
 {
-    if let [] | [b'#', ..] = line.as_bytes() {
-        return Entry::Comment;
+    if is_comment(line) {
+        return Ok(None);
     }
-    let Some((name, words)) = line.split_once(" ") else {
-        return Entry::Neither;
-    };
-    let Some((input, output)) = words.split_once(" ") else {
-        return Entry::Neither;
-    };
-    match read_step(name) {
-        Some(step) => Entry::Example(Value {
-            step,
-            input,
-            output,
-        }),
-        None => Entry::Neither,
+    match read_value(line) {
+        Some(value) => Ok(Some(value)),
+        None => Err(NoCase),
     }
 }

@@ -1,3 +1,1 @@
-pub mod Keys
-pub mod Pairs
 pub mod Trials

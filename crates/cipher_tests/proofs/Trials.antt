@@ -1,6 +1,5 @@
 -- What trials show of ciphers that mean the same.
-use Rattle.std.proofs.Common.{◌≡◌, ℕ, ◌<◌, Bool, true, false, not, ◌||◌, List, [], ◌∷◌, length, IfOk, Ok, Err, Result, unwrap_or, sym, refl, ◌∙◌, arith, tests}
-use Rattle.std.proofs.lemmas.Bool.{or_parts}
+use Rattle.std.proofs.Common.{◌≡◌, ℕ, ◌<◌, true, List, [], ◌∷◌, length, unwrap_or, sym, ◌∙◌, arith, tests}
 use Rattle.std.specs.List.{AllByRecursion}
 use Rattle.hex_digits.specs.Hex.{hex_bytes, hex_value}
 use Rattle.block.specs.Blocks.{Block, Meaning, Same}
@@ -21,10 +20,10 @@ block-from : (n : ℕ) (xs : List ℕ) → length (hex_bytes xs) ≡ n → Block
 block-from n xs e = record { long = e; bytes = bytes_small xs }
 
 -- ciphers that mean the same agree with the same vectors
-pub enciphers-same : (m o : Meaning) (v : Vector) → Same m o → Enciphers m v → Enciphers o v
+enciphers-same : (m o : Meaning) (v : Vector) → Same m o → Enciphers m v → Enciphers o v
 enciphers-same m o v s h = (h.0 ∙ s.sizes, sym (s.forwards (hex_bytes v.plain.now) (block-from m.size v.plain.now h.0)) ∙ h.1)
 
-pub deciphers-same : (m o : Meaning) (v : Vector) → Same m o → Deciphers m v → Deciphers o v
+deciphers-same : (m o : Meaning) (v : Vector) → Same m o → Deciphers m v → Deciphers o v
 deciphers-same m o v s h =
     (h.0 ∙ s.sizes, sym (s.inverses (hex_bytes v.ciphertext.now) (block-from m.size v.ciphertext.now h.0)) ∙ h.1)
 
@@ -34,19 +33,6 @@ deciphers-before m o v s h =
     let e : length (hex_bytes v.ciphertext.now) ≡ m.size = h.0 ∙ sym s.sizes in
     (e, s.inverses (hex_bytes v.ciphertext.now) (block-from m.size v.ciphertext.now e) ∙ h.1)
 
-pub confirms-same : (t : Trial) (m o : Meaning) (v : Vector) → Same m o → Confirms t m v → Confirms t o v
-confirms-same t m o v s h = (λ p. enciphers-same m o v s (h.0 p), λ p. deciphers-same m o v s (h.1 p))
-
-pub confirmed-same : {E : Type 0} (r : Result Trial E) (m o : Meaning) (v : Vector) → Same m o → IfOk r (λ t. Confirms t m v) → IfOk r (λ t. Confirms t o v)
-confirmed-same (Ok t) m o v s h = confirms-same t m o v s h
-confirmed-same (Err e) m o v s h = h
-
-true-from : (b : Bool) → not b ≡ false → b ≡ true
-true-from true e = refl
-true-from false e = sym e
-
 -- a trial that shows no difference
-pub agrees_from : (t : Trial) (m : Meaning) (v : Vector) → Confirms t m v → (not t.enciphers || not t.deciphers) ≡ false → Agrees m v
-agrees_from t m v h e =
-    let p = or_parts (not t.enciphers) (not t.deciphers) e in
-    (h.0 (true-from t.enciphers p.0), h.1 (true-from t.deciphers p.1))
+pub agrees_from : (t : Trial) (m o : Meaning) (v : Vector) → Same m o → Confirms t m v → (t.enciphers ≡ true) × (t.deciphers ≡ true) → Agrees o v
+agrees_from t m o v s h p = (enciphers-same m o v s (h.0 p.0), deciphers-same m o v s (h.1 p.1))

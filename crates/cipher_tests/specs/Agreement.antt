@@ -2,6 +2,11 @@
 use Rattle.std.specs.Prelude.{◌≡◌, ℕ, true, List, length}
 use Rattle.block.specs.Blocks.{Meaning}
 use Rattle.hex_digits.specs.Hex.{hex_bytes}
+use Rattle.kuznyechik_spec.specs.Kuznyechik.{kuznyechik}
+use Rattle.magma.specs.Magma.{magma}
+use Rattle.sheet_format.specs.declared.CipherKind.{CipherKind}
+use Rattle.sheet_format.specs.declared.CipherKind.TheVariants.{Kuznyechik, Magma}
+use Rattle.cipher_tests.specs.Entries.{VectorIn}
 use Rattle.cipher_tests.specs.declared.table.Vector.{Vector}
 use Rattle.cipher_tests.specs.declared.trial.Trial.{Trial}
 
@@ -24,3 +29,16 @@ Confirms t m v = (t.enciphers ≡ true → Enciphers m v) × (t.deciphers ≡ tr
 -- both ways
 abbrev pub Agrees : Meaning → Vector → Type 0
 Agrees m v = Enciphers m v × Deciphers m v
+
+-- the cipher with the key
+abbrev pub cipher_under : CipherKind → List ℕ → Meaning
+cipher_under Kuznyechik key = kuznyechik key
+cipher_under Magma key = magma key
+
+-- the cipher of the vector, under its key, agrees both ways
+abbrev pub Holds : Vector → Type 0
+Holds v = Agrees (cipher_under v.cipher (hex_bytes v.key.now)) v
+
+-- the vector in a line
+abbrev pub HoldsIn : List ℕ → Type 0
+HoldsIn line = (v : Vector) × VectorIn line v × Holds v

@@ -1,43 +1,27 @@
 // Runs the block ciphers on each vector of the table on standard input, both ways, and says where they do another thing than the table.
 #![tactic(auto)]
 
-ghost use Rattle.std.specs.Prelude.{◌≡◌, ℕ, ◌+◌, ◌-◌, ◌^◌, ◌≤◌, min, false, not, ◌||◌, IfOk, if◌then◌else◌};
-ghost use Rattle.hex_digits.specs.Hex.{hex_bytes};
-ghost use Rattle.kuznyechik_spec.specs.Kuznyechik.{kuznyechik};
-ghost use Rattle.magma.specs.Magma.{magma};
-ghost use Rattle.cipher_tests.specs.Agreement.{Agrees};
+ghost use Rattle.std.specs.Prelude.{◌≡◌, ◌↔◌, true, IfOk};
+ghost use Rattle.block.specs.Blocks.{Meaning, Same};
+ghost use Rattle.test_tables.specs.Lines.{Judges};
+ghost use Rattle.cipher_tests.specs.Agreement.{Agrees, Holds, HoldsIn};
 
-mod digits;
 mod table;
 mod trial;
 
-use std::io::{BufRead, BufReader};
-use table::{Entry, Vector};
+use block::BlockCipher;
+use kuznyechik::Kuznyechik;
+use kuznyechik_tables::KuznyechikTables;
+use magma::Magma;
+use sheet_format::CipherKind;
+use table::Vector;
+use test_digits::key_of;
+use test_tables::{NoCase, Tally, Verdict, run_table};
 use trial::Trial;
 
-// How many vectors were run, and how many of them differ.
-#[derive(Drop)]
-struct Tally {
-    vectors: u64,
-    differ: u64,
-    ghost fewer: { differ ≤ vectors },
-}
-
-impl Tally {
-    fn count(&mut self, differs: bool)
-        ensures vectors { self.new.vectors ≡ min (self.old.vectors + 1) (2 ^ 64 - 1) }
-        ensures differ { self.new.differ ≡ min (self.old.differ + (if differs then 1 else 0)) (2 ^ 64 - 1) }
-    {
-        self.vectors = self.vectors.saturating_add(1);
-        if differs {
-            self.differ = self.differ.saturating_add(1);
-        }
-    }
-}
-
-// Whether a trial shows a difference; if so, prints which.
-fn report(rt: &HostRuntime, number: u64, name: &str, trial: Trial) -> anyhow::Result<bool>
-    ensures { IfOk result (λ differs. differs ≡ (not trial.enciphers || not trial.deciphers)) }
+// The verdict of a trial; prints each difference that it shows.
+fn report(rt: &HostRuntime, number: u64, name: &str, trial: Trial) -> anyhow::Result<Verdict>
+    ensures { IfOk result (λ v. (v ≡ Verdict.Agrees ↔ (trial.enciphers ≡ true) × (trial.deciphers ≡ true))) }
 {
     if !trial.enciphers {
         println!(rt; "differs: {number}: {name} enciphers to another block")?;
@@ -45,61 +29,55 @@ fn report(rt: &HostRuntime, number: u64, name: &str, trial: Trial) -> anyhow::Re
     if !trial.deciphers {
         println!(rt; "differs: {number}: {name} deciphers to another block")?;
     }
-    Ok(!trial.enciphers || !trial.deciphers)
+    Ok(Verdict::of(trial.enciphers && trial.deciphers))
 }
 
-// Kuznyechik, plain and by tables.
-fn run_kuznyechik(rt: &HostRuntime, number: u64, vector: Vector<'_>) -> anyhow::Result<bool>
-    ensures { IfOk result (λ differs. (differs ≡ false → Agrees (kuznyechik (hex_bytes vector.entry.key.now)) vector.entry)) }
+// What is found of a cipher on a vector, and so of each that means the same.
+fn run_cipher<C: BlockCipher>(
+    rt: &HostRuntime,
+    number: u64,
+    name: &str,
+    cipher: &mut C,
+    vector: Vector<'_>,
+) -> anyhow::Result<Verdict>
+    ensures { IfOk result (λ v. (v ≡ Verdict.Agrees → (m : Meaning) → Same (C.BlockCipher.meaning cipher.old) m → Agrees m vector.entry)) }
 {
-    let plain = trial::try_kuznyechik(rt.alloc(), vector)?;
-    let tables = trial::try_tables(rt.alloc(), vector)?;
-    let plain_differs = report(rt, number, "Kuznyechik", plain)?;
-    let tables_differ = report(rt, number, "Kuznyechik by tables", tables)?;
-    Ok(plain_differs || tables_differ)
+    let trial = trial::both_ways(rt.alloc(), cipher, vector)?;
+    report(rt, number, name, trial)
 }
 
-fn run_magma(rt: &HostRuntime, number: u64, vector: Vector<'_>) -> anyhow::Result<bool>
-    ensures { IfOk result (λ differs. (differs ≡ false → Agrees (magma (hex_bytes vector.entry.key.now)) vector.entry)) }
+// Runs the vector's cipher on it: Kuznyechik plain and by tables, or Magma.
+fn run_vector(rt: &HostRuntime, number: u64, vector: Vector<'_>) -> anyhow::Result<Verdict>
+    ensures { IfOk result (λ v. (v ≡ Verdict.Agrees → Holds vector.entry)) }
 {
-    let trial = trial::try_magma(rt.alloc(), vector)?;
-    let differs = report(rt, number, "Magma", trial)?;
-    Ok(differs)
+    let key = key_of(rt.alloc(), vector.key)?;
+    match vector.cipher {
+        CipherKind::Kuznyechik => {
+            let mut plain = Kuznyechik::prepare(&key);
+            let mut tables = KuznyechikTables::prepare(&key);
+            let verdict = run_cipher(rt, number, "Kuznyechik", &mut plain, vector)?;
+            let tables = run_cipher(rt, number, "Kuznyechik by tables", &mut tables, vector)?;
+            Ok(verdict.and(tables))
+        }
+        CipherKind::Magma => { run_cipher(rt, number, "Magma", &mut Magma::prepare(&key), vector) }
+    }
 }
 
-// Runs every vector, and prints a line for each difference.
-fn run_table(rt: &HostRuntime) -> anyhow::Result<Tally>
-    ensures { IfOk result (λ t. t.differ ≤ t.vectors) }
+fn run_line(rt: &HostRuntime, number: u64, line: &str) -> anyhow::Result<Option<Verdict>>
+    ensures { IfOk result (Judges HoldsIn line.now) }
 {
-    let mut tally = Tally {
-        vectors: 0,
-        differ: 0,
-    };
-    let mut number: u64 = 0;
-    for line in BufReader::new(rt.alloc(), rt.stdin())?.lines(rt.alloc()) {
-        let line = line?;
-        number = number.saturating_add(1);
-        match table::read_entry(line.as_str()) {
-            Entry::Comment => {}
-            Entry::Kuznyechik(vector) => {
-                let differs = run_kuznyechik(rt, number, vector)?;
-                tally.count(differs);
-            }
-            Entry::Magma(vector) => {
-                let differs = run_magma(rt, number, vector)?;
-                tally.count(differs);
-            }
-            Entry::Neither => {
-                println!(rt; "differs: {number}: no vector")?;
-                tally.count(true);
-            }
+    match table::read_entry(line) {
+        Ok(None) => Ok(None),
+        Ok(Some(vector)) => Ok(Some(run_vector(rt, number, vector)?)),
+        Err(NoCase) => {
+            println!(rt; "differs: {number}: no vector")?;
+            Ok(Some(Verdict::Differs))
         }
     }
-    Ok(tally)
 }
 
 fn main(rt: HostRuntime) -> anyhow::Result<()> {
-    let Tally { vectors, differ } = run_table(&rt)?;
-    println!(rt; "{vectors} vectors, {differ} differ")?;
+    let Tally { cases, differ } = run_table(&rt, |number, line| run_line(&rt, number, line))?;
+    println!(rt; "{cases} vectors, {differ} differ")?;
     Ok(())
 }

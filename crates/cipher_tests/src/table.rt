@@ -2,57 +2,44 @@
 ghost use Rattle.std.specs.Prelude.{IfSome};
 ghost use Rattle.cipher_tests.specs.Entries.{Reads, VectorIn};
 
-// A key, a block and its E, in hexadecimal digits.
+use sheet_format::CipherKind;
+use test_tables::{NoCase, is_comment, read_cipher};
+
+// A cipher, and a key, a block and its E in hexadecimal digits.
 #[derive(Clone, Copy)]
 pub struct Vector<'a> {
+    pub cipher: CipherKind,
     pub key: &'a str,
     pub plain: &'a str,
     pub ciphertext: &'a str,
 }
 
-// What a line of the table is.
-#[derive(Clone, Copy)]
-pub enum Entry<'a> {
-    Comment,
-    Kuznyechik(Vector<'a>),
-    Magma(Vector<'a>),
-    Neither,
-}
-
-// What stands behind the cipher's name: three words.
-fn read_vector<'a>(words: &'a str) -> Option<Vector<'a>>
-    ensures { IfSome result (VectorIn words.now) }
+// Four words.
+#[tactic(auto, using(std::proofs::lemmas::Str::Pattern::split_text_parts))]
+fn read_vector<'a>(line: &'a str) -> Option<Vector<'a>>
+    ensures { IfSome result (VectorIn line.now) }
 {
-    let Some((key, blocks)) = words.split_once(" ") else {
-        return None;
-    };
-    let Some((plain, ciphertext)) = blocks.split_once(" ") else {
-        return None;
-    };
+    let (name, words) = line.split_once(" ")?;
+    let cipher = read_cipher(name)?;
+    let (key, blocks) = words.split_once(" ")?;
+    let (plain, ciphertext) = blocks.split_once(" ")?;
     Some(Vector {
+        cipher,
         key,
         plain,
         ciphertext,
     })
 }
 
-pub fn read_entry<'a>(line: &'a str) -> Entry<'a>
+// The vector that stands in a line, if it is no comment.
+pub fn read_entry<'a>(line: &'a str) -> Result<Option<Vector<'a>>, NoCase>
     ensures { Reads line.now result }
 {
-    if let [] | [b'#', ..] = line.as_bytes() {
-        return Entry::Comment;
+    if is_comment(line) {
+        return Ok(None);
     }
-    let Some((cipher, words)) = line.split_once(" ") else {
-        return Entry::Neither;
-    };
-    let Some(vector) = read_vector(words) else {
-        return Entry::Neither;
-    };
-    if cipher == "kuz" {
-        Entry::Kuznyechik(vector)
-    } else if cipher == "magma" {
-        Entry::Magma(vector)
-    } else {
-        Entry::Neither
+    match read_vector(line) {
+        Some(vector) => Ok(Some(vector)),
+        None => Err(NoCase),
     }
 }

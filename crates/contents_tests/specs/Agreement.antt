@@ -1,5 +1,5 @@
 -- When a case of the table agrees with the definitions.
-use Rattle.std.specs.Prelude.{◌≡◌, ℕ, ◌+◌, ◌*◌, ◌<◌, ◌⊎◌, List, length, Ok, slice_index, slice_set}
+use Rattle.std.specs.Prelude.{◌≡◌, ℕ, ◌+◌, ◌*◌, ◌<◌, ◌⊎◌, List, ◌++◌, codes, length, Ok, slice_index, slice_set}
 use Rattle.hex_digits.specs.Hex.{hex_bytes}
 use Rattle.sheet_format.specs.Orders.{Order, order_of}
 use Rattle.contents_format.specs.Layout.{contents_of}
@@ -29,3 +29,7 @@ Tells answer bytes = ReadsAs answer bytes ⊎ (MadeOf bytes ⊎ ((marks : List �
 -- the same of contents in hexadecimal digits
 abbrev pub Agrees : List ℕ → List ℕ → Type 0
 Agrees answer text = Tells answer (hex_bytes text)
+
+-- the case in a line, `ANSWER | CONTENTS`
+abbrev pub HoldsIn : List ℕ → Type 0
+HoldsIn line = (answer text : List ℕ) × (line ≡ answer ++ (codes " | " ++ text)) × Agrees answer text

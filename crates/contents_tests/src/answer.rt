@@ -6,6 +6,7 @@ ghost use Rattle.contents_tests.specs.Texts.{answer_text};
 
 use contents::Contents;
 use contents_format::ContentsFault;
+use fault::FaultCode;
 use std::fmt;
 
 #[derive(Clone, Copy)]
@@ -23,9 +24,8 @@ impl fmt::Display for Answer {
                 write!(f, "ok {n} {bodies} {m}")
             }
             Err(fault) => {
-                let code = fault.code();
-                let (layer, number, place) = (code.layer, code.number, code.place);
-                write!(f, "no {layer} {number} {place}")
+                let code = FaultCode::from(fault);
+                write!(f, "no {code}")
             }
         }
     }

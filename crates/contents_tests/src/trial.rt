@@ -8,22 +8,14 @@ ghost use Rattle.contents_tests.specs.Texts.{mark_of};
 ghost use Rattle.contents_tests.specs.Agreement.{Changes, MadeOf, OrderedBy, ReadsAs, Tells};
 
 use super::answer::Answer;
-use super::digits::bytes_of;
 use contents::{Contents, read_contents};
 use contents_format::{BlockLength, ContentsFault};
+use fault::FaultCode;
 use std::alloc::{AllocError, Global};
+use test_digits::bytes_of;
 
 // What every byte of an output is before it is written.
 const FILL: u8 = 0xAA;
-
-fn all_are(bytes: &[u8], value: u8) -> bool {
-    for b in bytes {
-        if *b != value {
-            return false;
-        }
-    }
-    true
-}
 
 // Whether the bytes stand in front of an output that is as it was behind them.
 fn is_written(out: &[u8], length: usize, bytes: &[u8]) -> bool
@@ -31,18 +23,15 @@ fn is_written(out: &[u8], length: usize, bytes: &[u8]) -> bool
     ensures { result ≡ true → take length out.now ≡ bytes.now }
 {
     let (front, rest) = out.split_at(length);
-    if front == bytes {
-        all_are(rest, FILL)
-    } else {
-        false
-    }
+    front == bytes && rest.iter().all(|b| *b == FILL)
 }
 
 // Whether an output of 59 bytes, too short for any contents, is refused and untouched.
-fn refuses_short(contents: &Contents) -> bool {
+fn refuses_short(contents: &Contents) -> bool
+    ensures { result ≡ true → 59 < list_length (bytes_of contents.now) }
+{
     let mut out = [FILL; 59];
-    let answer = contents.write(&mut out);
-    answer.is_none() && all_are(&out, FILL)
+    contents.write(&mut out).is_none() && out.iter().all(|b| *b == FILL)
 }
 
 // Whether contents are written to an output as these bytes.
@@ -97,7 +86,7 @@ fn mark(answer: Result<Contents, ContentsFault>) -> u8
 {
     match answer {
         Ok(_) => b'.',
-        Err(fault) => b'0' + (fault.code().place % 10) as u8,
+        Err(fault) => b'0' + (FaultCode::from(fault).place % 10) as u8,
     }
 }
 
@@ -108,10 +97,10 @@ fn byte_changes_as(marks: &[u8], at: usize, bytes: &[u8], changed: &mut [u8]) ->
     requires same { list_length changed.old ≡ list_length bytes.now }
     ensures { result ≡ true → ((v : ℕ) → v < 256 → mark_of (contents_read (slice_set bytes.now at v)) ≡ slice_index marks.now v) }
 {
-    for value in 0..256usize {
+    for (value, expected) in marks.iter().enumerate() {
         changed.copy_from_slice(bytes);
         changed[at] = value as u8;
-        if mark(read_contents(changed)) != marks[value] {
+        if mark(read_contents(changed)) != *expected {
             return false;
         }
     }
@@ -126,6 +115,7 @@ fn changes_as(marks: &[u8], bytes: &[u8], changed: &mut [u8]) -> bool
     if marks.len() / 256 != bytes.len() {
         return false;
     }
+    // by number: std says nothing of the k-th chunk in a loop over chunks_exact, and the proof of that form did not close
     for at in 0..bytes.len() {
         let first = 256 * at;
         if !byte_changes_as(&marks[first..first + 256], at, bytes, changed) {

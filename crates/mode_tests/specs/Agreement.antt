@@ -1,18 +1,25 @@
 -- When a mode or the MAC agrees with a test vector.
-use Rattle.std.specs.Prelude.{◌≡◌, ℕ, ◌-◌, ◌/◌, Bool, true, not, ◌||◌, List, ◌++◌, length, take, vec_items}
+use Rattle.std.specs.Prelude.{◌≡◌, ℕ, ◌-◌, ◌/◌, true, List, ◌++◌, length, take, vec_items}
 use Rattle.block.specs.Blocks.{Meaning, Same}
 use Rattle.hex_digits.specs.Hex.{hex_bytes}
 use Rattle.modes_spec.specs.Cbc.{cbc_sealed}
 use Rattle.modes_spec.specs.Ctr.{ctr}
 use Rattle.modes_spec.specs.Mac.{mac}
 use Rattle.modes_spec.specs.Texts.{zeros}
+use Rattle.kuznyechik_spec.specs.Kuznyechik.{kuznyechik}
+use Rattle.magma.specs.Magma.{magma}
+use Rattle.sheet_format.specs.declared.CipherKind.{CipherKind}
+use Rattle.sheet_format.specs.declared.CipherKind.TheVariants.{Kuznyechik, Magma}
+use Rattle.sheet_format.specs.declared.Mode.{Mode}
+use Rattle.sheet_format.specs.declared.Mode.TheVariants.{Ctr, Cbc}
+use Rattle.mode_tests.specs.Entries.{VectorIn}
 use Rattle.mode_tests.specs.Runs.{OpenedAs}
 use Rattle.mode_tests.specs.declared.inputs.MacInput.{MacInput}
 use Rattle.mode_tests.specs.declared.inputs.SealedInput.{SealedInput}
 use Rattle.mode_tests.specs.declared.table.MacVector.{MacVector}
-use Rattle.mode_tests.specs.declared.table.Mode.{Mode}
-use Rattle.mode_tests.specs.declared.table.Mode.TheVariants.{Ctr, Cbc}
 use Rattle.mode_tests.specs.declared.table.SealedVector.{SealedVector}
+use Rattle.mode_tests.specs.declared.table.Vector.{Vector}
+use Rattle.mode_tests.specs.declared.table.Vector.TheVariants.{Sealed, Mac}
 use Rattle.mode_tests.specs.declared.trial.MacTrial.{MacTrial}
 use Rattle.mode_tests.specs.declared.trial.SealedTrial.{SealedTrial}
 
@@ -53,12 +60,12 @@ ConfirmsMac cipher i t =
     (m : Meaning) → Same m cipher
     → (t.first ≡ true → whole_mac m (vec_items i.text) ≡ i.mac) × (t.other ≡ true → whole_mac m (vec_items i.text) ≡ i.mac)
 
--- whether a trial shows a difference
-abbrev pub differs_sealed : SealedTrial → Bool
-differs_sealed t = (not t.seals || not t.tags) || not t.opens
+-- a trial that shows no difference
+abbrev pub AllSealed : SealedTrial → Type 0
+AllSealed t = (t.seals ≡ true) × (t.tags ≡ true) × (t.opens ≡ true)
 
-abbrev pub differs_mac : MacTrial → Bool
-differs_mac t = not t.first || not t.other
+abbrev pub AllMac : MacTrial → Type 0
+AllMac t = (t.first ≡ true) × (t.other ≡ true)
 
 -- what a mode gives back of a sealed text
 abbrev pub OpenedBy : Mode → Meaning → List ℕ → ℕ → ℕ → List ℕ → List ℕ → Type 0
@@ -73,3 +80,27 @@ AgreesSealed mode m o v =
 
 abbrev pub AgreesMac : Meaning → MacVector → Type 0
 AgreesMac m v = whole_mac m (hex_bytes v.text.now) ≡ padded (hex_bytes v.mac.now)
+
+-- the cipher with the key, and the other one, which makes the tags
+abbrev pub cipher_under : CipherKind → List ℕ → Meaning
+cipher_under Kuznyechik key = kuznyechik key
+cipher_under Magma key = magma key
+
+abbrev pub tag_cipher_under : CipherKind → List ℕ → Meaning
+tag_cipher_under Kuznyechik key = magma key
+tag_cipher_under Magma key = kuznyechik key
+
+-- a vector agrees, under its keys
+abbrev pub HoldsSealed : SealedVector → Type 0
+HoldsSealed v = AgreesSealed v.mode (cipher_under v.cipher (hex_bytes v.key.now)) (tag_cipher_under v.cipher (hex_bytes v.tag_key.now)) v
+
+abbrev pub HoldsMac : MacVector → Type 0
+HoldsMac v = AgreesMac (cipher_under v.cipher (hex_bytes v.key.now)) v
+
+abbrev pub Holds : Vector → Type 0
+Holds (Sealed v) = HoldsSealed v
+Holds (Mac v) = HoldsMac v
+
+-- the vector in a line
+abbrev pub HoldsIn : List ℕ → Type 0
+HoldsIn line = (v : Vector) × VectorIn line v × Holds v

@@ -1,18 +1,14 @@
 -- What a line of the table is.
-use Rattle.std.specs.Prelude.{◌≡◌, ℕ, Bool, true, false, List, [], ◌∷◌, ◌++◌, codes, ◌==◌}
-use Rattle.mode_tests.specs.declared.table.Cipher.{Cipher}
-use Rattle.mode_tests.specs.declared.table.Cipher.TheVariants.{Kuznyechik, Magma}
-use Rattle.mode_tests.specs.declared.table.Entry.{Entry}
-use Rattle.mode_tests.specs.declared.table.Entry.TheVariants.{Comment, Sealed, Mac, Neither}
+use Rattle.std.specs.Prelude.{◌≡◌, ℕ, true, false, List, ◌++◌, codes, Option, Some, None, Result, Ok, Err}
+use Rattle.sheet_format.specs.declared.CipherKind.{CipherKind}
+use Rattle.sheet_format.specs.declared.Mode.{Mode}
+use Rattle.sheet_format.specs.declared.Mode.TheVariants.{Ctr, Cbc}
+use Rattle.test_tables.specs.Lines.{cipher_name, passed_over}
+use Rattle.test_tables.specs.declared.NoCase.{NoCase}
 use Rattle.mode_tests.specs.declared.table.MacVector.{MacVector}
-use Rattle.mode_tests.specs.declared.table.Mode.{Mode}
-use Rattle.mode_tests.specs.declared.table.Mode.TheVariants.{Ctr, Cbc}
 use Rattle.mode_tests.specs.declared.table.SealedVector.{SealedVector}
-
--- it is empty, or begins with `#`
-abbrev pub passed_over : List ℕ → Bool
-passed_over [] = true
-passed_over (x ∷ xs) = x == 35
+use Rattle.mode_tests.specs.declared.table.Vector.{Vector}
+use Rattle.mode_tests.specs.declared.table.Vector.TheVariants.{Sealed, Mac}
 
 -- a word, and what stands behind it
 infixr 60 ◌␣◌
@@ -30,16 +26,15 @@ abbrev pub mode_name : Mode → List ℕ
 mode_name Ctr = codes "ctr"
 mode_name Cbc = codes "cbc"
 
-abbrev pub cipher_name : Cipher → List ℕ
-cipher_name Kuznyechik = codes "kuz"
-cipher_name Magma = codes "magma"
-
 -- the mode and the cipher stand before the words
-abbrev pub Headed : List ℕ → List ℕ → Cipher → (List ℕ → Type 0) → Type 0
+abbrev pub Headed : List ℕ → List ℕ → CipherKind → (List ℕ → Type 0) → Type 0
 Headed line mode cipher Rest = (words : List ℕ) × (line ≡ mode ␣ cipher_name cipher ␣ words) × Rest words
 
-abbrev pub Reads : List ℕ → Entry → Type 0
-Reads line Comment = passed_over line ≡ true
-Reads line (Sealed mode c v) = Headed line (mode_name mode) c (λ words. SealedIn words v)
-Reads line (Mac c v) = Headed line (codes "mac") c (λ words. MacIn words v)
-Reads line Neither = passed_over line ≡ false
+abbrev pub VectorIn : List ℕ → Vector → Type 0
+VectorIn line (Sealed v) = Headed line (mode_name v.mode) v.cipher (λ words. SealedIn words v)
+VectorIn line (Mac v) = Headed line (codes "mac") v.cipher (λ words. MacIn words v)
+
+abbrev pub Reads : List ℕ → Result (Option Vector) NoCase → Type 0
+Reads line (Ok None) = passed_over line ≡ true
+Reads line (Ok (Some v)) = (passed_over line ≡ false) × VectorIn line v
+Reads line (Err e) = passed_over line ≡ false

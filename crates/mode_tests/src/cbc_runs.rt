@@ -1,16 +1,16 @@
 // cbc over a text that is fed in pieces.
-ghost use Rattle.std.specs.Prelude.{◌≡◌, true, take, IfSome, IfOk, OnOk};
+ghost use Rattle.std.specs.Prelude.{◌≡◌, take, IfOk, OnOk};
 ghost use Rattle.block.specs.Blocks.{Same};
 ghost use Rattle.modes_spec.specs.Cbc.{cbc_sealed};
 ghost use Rattle.mode_tests.specs.Runs.{CbcEnds, CbcGoesOn, OpenedAs, OpeningEnds, OpeningGoesOn, SealedAs};
 
-use super::pieces;
+use super::pieces::{Feed, cut_off};
 use super::tagged::{Sealed, Tagged};
 use anyhow::anyhow;
 use block::BlockCipher;
-use modes::cbc::CbcSealer;
+use modes::cbc::{CbcFault, CbcSealer};
 use modes::opening::CbcOpener;
-use std::alloc::Global;
+use std::alloc::{AllocError, Global};
 
 // Seals one piece, and takes what became whole into the MAC.
 fn seal_piece<C: BlockCipher, T: BlockCipher>(
@@ -60,19 +60,17 @@ pub fn seal<C: BlockCipher, T: BlockCipher>(
     heap: Global,
     cipher: &mut C,
     tag_cipher: &mut T,
-    start: &[u8; 16],
-    cutting: &[u8],
-    text: &[u8],
+    feed: Feed<'_>,
 ) -> anyhow::Result<Sealed>
-    ensures sealed { IfOk result (SealedAs (C.BlockCipher.meaning cipher.old) (T.BlockCipher.meaning tag_cipher.old) (λ m. cbc_sealed m (take m.size start.now) text.now)) }
+    ensures sealed { IfOk result (SealedAs (C.BlockCipher.meaning cipher.old) (T.BlockCipher.meaning tag_cipher.old) (λ m. cbc_sealed m (take m.size feed.entry.start.now) feed.entry.text.now)) }
     ensures same { Same (C.BlockCipher.meaning cipher.old) (C.BlockCipher.meaning cipher.new) }
     ensures tag_same { Same (T.BlockCipher.meaning tag_cipher.old) (T.BlockCipher.meaning tag_cipher.new) }
 {
-    let mut sealer = CbcSealer::new(start);
+    let mut sealer = CbcSealer::new(feed.start);
     let mut out = Tagged::new(heap);
-    let mut rest = text;
-    for cut in cutting {
-        let (piece, tail) = pieces::cut_off(rest, *cut);
+    let mut rest = feed.text;
+    for cut in feed.cutting {
+        let (piece, tail) = cut_off(rest, *cut);
         seal_piece(heap, cipher, tag_cipher, &mut sealer, &mut out, piece)?;
         rest = tail;
     }
@@ -81,74 +79,87 @@ pub fn seal<C: BlockCipher, T: BlockCipher>(
     Ok(out.finish(tag_cipher))
 }
 
-// Opens one piece of a sealed text; answers whether it is accepted.
+// A sealed text of which so many blocks stand before the last, and `rest` bytes of the last are text.
+#[derive(Clone, Copy)]
+pub struct Extent {
+    pub before: u32,
+    pub rest: usize,
+}
+
+// Why a sealed text is not opened.
+#[derive(Clone, Copy)]
+pub enum OpenError {
+    Refused(CbcFault),
+    OutOfMemory(AllocError),
+}
+
+impl From<CbcFault> for OpenError {
+    fn from(fault: CbcFault) -> OpenError {
+        OpenError::Refused(fault)
+    }
+}
+
+impl From<AllocError> for OpenError {
+    fn from(error: AllocError) -> OpenError {
+        OpenError::OutOfMemory(error)
+    }
+}
+
+// Opens one piece of a sealed text.
 fn open_piece<C: BlockCipher>(
     heap: Global,
     cipher: &mut C,
     opener: &mut CbcOpener,
     out: &mut Vec<u8>,
     piece: &[u8],
-) -> anyhow::Result<bool>
-    ensures opened { IfOk result (λ accepted. (accepted ≡ true → OpeningGoesOn (C.BlockCipher.meaning cipher.old) piece.now opener.old out.old.items opener.new out.new.items)) }
+) -> Result<(), OpenError>
+    ensures opened { OnOk result (OpeningGoesOn (C.BlockCipher.meaning cipher.old) piece.now opener.old out.old.items opener.new out.new.items) }
     ensures same { Same (C.BlockCipher.meaning cipher.old) (C.BlockCipher.meaning cipher.new) }
 {
     let mut blocks = vec![in heap; 0u8; piece.len().saturating_add(16)]?;
-    let Ok(count) = opener.take(cipher, piece, blocks.as_mut_slice()) else {
-        return Ok(false);
-    };
+    let count = opener.take(cipher, piece, blocks.as_mut_slice())?;
     blocks.truncate(count);
     out.extend_from_slice(blocks.as_slice())?;
-    Ok(true)
+    Ok(())
 }
 
-// Opens the last block, of which `rest` bytes are text; answers whether it is accepted.
+// Opens the last block, of which `rest` bytes are text.
 fn open_end<C: BlockCipher>(
     heap: Global,
     cipher: &mut C,
     opener: CbcOpener,
     rest: usize,
     out: &mut Vec<u8>,
-) -> anyhow::Result<bool>
-    ensures opened { IfOk result (λ accepted. (accepted ≡ true → OpeningEnds (C.BlockCipher.meaning cipher.old) opener rest out.old.items out.new.items)) }
+) -> Result<(), OpenError>
+    ensures opened { OnOk result (OpeningEnds (C.BlockCipher.meaning cipher.old) opener rest out.old.items out.new.items) }
     ensures same { Same (C.BlockCipher.meaning cipher.old) (C.BlockCipher.meaning cipher.new) }
 {
-    let Ok(last) = opener.finish(cipher, rest) else {
-        return Ok(false);
-    };
+    let last = opener.finish(cipher, rest)?;
     let mut bytes = Vec::from_slice(heap, &last)?;
     bytes.truncate(rest);
     out.extend_from_slice(bytes.as_slice())?;
-    Ok(true)
+    Ok(())
 }
 
-// Opens a sealed text of which so many blocks stand before the last, and `rest` bytes of the last are text. None if it is refused.
+// Opens a sealed text of that extent.
 pub fn open<C: BlockCipher>(
     heap: Global,
     cipher: &mut C,
-    start: &[u8; 16],
-    cutting: &[u8],
-    sealed: &[u8],
-    before: u32,
-    rest: usize,
-) -> anyhow::Result<Option<Vec<u8>>>
-    ensures opened { IfOk result (λ o. IfSome o (λ v. OpenedAs (C.BlockCipher.meaning cipher.old) start.now before rest sealed.now v.items)) }
+    feed: Feed<'_>,
+    extent: Extent,
+) -> Result<Vec<u8>, OpenError>
+    ensures opened { IfOk result (λ v. OpenedAs (C.BlockCipher.meaning cipher.old) feed.entry.start.now extent.before extent.rest feed.entry.text.now v.items) }
     ensures same { Same (C.BlockCipher.meaning cipher.old) (C.BlockCipher.meaning cipher.new) }
 {
-    let mut opener = CbcOpener::new(start, before);
+    let mut opener = CbcOpener::new(feed.start, extent.before);
     let mut out = Vec::new(heap);
-    let mut left = sealed;
-    for cut in cutting {
-        let (piece, tail) = pieces::cut_off(left, *cut);
-        if !open_piece(heap, cipher, &mut opener, &mut out, piece)? {
-            return Ok(None);
-        }
+    let mut left = feed.text;
+    for cut in feed.cutting {
+        let (piece, tail) = cut_off(left, *cut);
+        open_piece(heap, cipher, &mut opener, &mut out, piece)?;
         left = tail;
     }
-    if !open_piece(heap, cipher, &mut opener, &mut out, left)? {
-        return Ok(None);
-    }
-    if !open_end(heap, cipher, opener, rest, &mut out)? {
-        return Ok(None);
-    }
-    Ok(Some(out))
+    open_piece(heap, cipher, &mut opener, &mut out, left)?;
+    open_end(heap, cipher, opener, extent.rest, &mut out)?;
+    Ok(out)
 }

@@ -4,7 +4,7 @@ ghost use Rattle.block.specs.Blocks.{Same};
 ghost use Rattle.modes_spec.specs.Ctr.{ctr};
 ghost use Rattle.mode_tests.specs.Runs.{CtrGoesOn, SealedAs};
 
-use super::pieces;
+use super::pieces::{Feed, cut_off};
 use super::tagged::{Sealed, Tagged};
 use block::BlockCipher;
 use modes::ctr::CtrStream;
@@ -34,19 +34,17 @@ pub fn run<C: BlockCipher, T: BlockCipher>(
     heap: Global,
     cipher: &mut C,
     tag_cipher: &mut T,
-    start: &[u8; 16],
-    cutting: &[u8],
-    text: &[u8],
+    feed: Feed<'_>,
 ) -> anyhow::Result<Sealed>
-    ensures sealed { IfOk result (SealedAs (C.BlockCipher.meaning cipher.old) (T.BlockCipher.meaning tag_cipher.old) (λ m. ctr m (take (m.size / 2) start.now) text.now)) }
+    ensures sealed { IfOk result (SealedAs (C.BlockCipher.meaning cipher.old) (T.BlockCipher.meaning tag_cipher.old) (λ m. ctr m (take (m.size / 2) feed.entry.start.now) feed.entry.text.now)) }
     ensures same { Same (C.BlockCipher.meaning cipher.old) (C.BlockCipher.meaning cipher.new) }
     ensures tag_same { Same (T.BlockCipher.meaning tag_cipher.old) (T.BlockCipher.meaning tag_cipher.new) }
 {
-    let mut stream = CtrStream::new(start);
+    let mut stream = CtrStream::new(feed.start);
     let mut out = Tagged::new(heap);
-    let mut rest = text;
-    for cut in cutting {
-        let (piece, tail) = pieces::cut_off(rest, *cut);
+    let mut rest = feed.text;
+    for cut in feed.cutting {
+        let (piece, tail) = cut_off(rest, *cut);
         run_piece(heap, cipher, tag_cipher, &mut stream, &mut out, piece)?;
         rest = tail;
     }

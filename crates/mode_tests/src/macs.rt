@@ -4,7 +4,7 @@ ghost use Rattle.block.specs.Blocks.{Meaning, Same};
 ghost use Rattle.modes_spec.specs.Mac.{mac};
 ghost use Rattle.modes_spec.specs.Texts.{zeros};
 
-use super::pieces;
+use super::pieces::cut_off;
 use block::BlockCipher;
 use modes::mac::Mac;
 
@@ -16,7 +16,7 @@ pub fn mac_of<C: BlockCipher>(cipher: &mut C, cutting: &[u8], text: &[u8]) -> [u
     let mut state = Mac::new();
     let mut rest = text;
     for cut in cutting {
-        let (piece, tail) = pieces::cut_off(rest, *cut);
+        let (piece, tail) = cut_off(rest, *cut);
         state.absorb(cipher, piece);
         rest = tail;
     }

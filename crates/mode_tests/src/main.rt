@@ -2,11 +2,10 @@
 // do another thing than the table.
 #![tactic(auto)]
 
-ghost use Rattle.std.specs.Prelude.{◌≡◌, ◌≤◌, false, ◌||◌, IfOk};
-ghost use Rattle.hex_digits.specs.Hex.{hex_bytes};
-ghost use Rattle.kuznyechik_spec.specs.Kuznyechik.{kuznyechik};
-ghost use Rattle.magma.specs.Magma.{magma};
-ghost use Rattle.mode_tests.specs.Agreement.{AgreesMac, AgreesSealed, differs_mac, differs_sealed};
+ghost use Rattle.std.specs.Prelude.{◌≡◌, ◌↔◌, IfOk};
+ghost use Rattle.block.specs.Blocks.{Meaning, Same};
+ghost use Rattle.test_tables.specs.Lines.{Judges};
+ghost use Rattle.mode_tests.specs.Agreement.{AgreesMac, AgreesSealed, AllMac, AllSealed, Holds, HoldsIn, HoldsMac, HoldsSealed};
 
 mod cbc_runs;
 mod ctr_runs;
@@ -15,26 +14,26 @@ mod macs;
 mod pieces;
 mod table;
 mod tagged;
-mod tally;
 mod trial;
 
+use block::BlockCipher;
 use kuznyechik::Kuznyechik;
 use kuznyechik_tables::KuznyechikTables;
 use magma::Magma;
-use std::io::{BufRead, BufReader};
-use table::{Cipher, Entry, MacVector, Mode, SealedVector};
-use tally::Tally;
+use sheet_format::CipherKind;
+use table::{MacVector, SealedVector, Vector};
 use test_digits::key_of;
+use test_tables::{NoCase, Tally, Verdict, run_table};
 use trial::{MacTrial, SealedTrial};
 
-// Whether a trial shows a difference; if so, prints which.
+// The verdict of a trial; prints each difference that it shows.
 fn report_sealed(
     rt: &HostRuntime,
     number: u64,
     name: &str,
     trial: SealedTrial,
-) -> anyhow::Result<bool>
-    ensures { IfOk result (λ differs. differs ≡ differs_sealed trial) }
+) -> anyhow::Result<Verdict>
+    ensures { IfOk result (λ v. (v ≡ Verdict.Agrees ↔ AllSealed trial)) }
 {
     if !trial.seals {
         println!(rt; "differs: {number}: {name} seals to another text")?;
@@ -45,12 +44,12 @@ fn report_sealed(
     if !trial.opens {
         println!(rt; "differs: {number}: {name} opens to another text")?;
     }
-    Ok(!trial.seals || !trial.tags || !trial.opens)
+    Ok(Verdict::of(trial.seals && trial.tags && trial.opens))
 }
 
 // The same of a MAC.
-fn report_mac(rt: &HostRuntime, number: u64, name: &str, trial: MacTrial) -> anyhow::Result<bool>
-    ensures { IfOk result (λ differs. differs ≡ differs_mac trial) }
+fn report_mac(rt: &HostRuntime, number: u64, name: &str, trial: MacTrial) -> anyhow::Result<Verdict>
+    ensures { IfOk result (λ v. (v ≡ Verdict.Agrees ↔ AllMac trial)) }
 {
     if !trial.first {
         println!(rt; "differs: {number}: {name} makes another MAC")?;
@@ -58,127 +57,110 @@ fn report_mac(rt: &HostRuntime, number: u64, name: &str, trial: MacTrial) -> any
     if !trial.other {
         println!(rt; "differs: {number}: {name} makes another MAC in other pieces")?;
     }
-    Ok(!trial.first || !trial.other)
+    Ok(Verdict::of(trial.first && trial.other))
 }
 
-fn either(a: bool, b: bool) -> bool
-    ensures { result ≡ (a || b) }
-{
-    a || b
-}
-
-// Kuznyechik, plain and by tables; the tag by Magma.
-fn run_kuznyechik(
+// What is found of a cipher and one for the tag, and so of each that mean the same.
+fn run_sealed<C: BlockCipher, T: BlockCipher>(
     rt: &HostRuntime,
     number: u64,
-    mode: Mode,
+    name: &str,
+    cipher: &mut C,
+    tag_cipher: &mut T,
     vector: SealedVector<'_>,
-) -> anyhow::Result<bool>
-    ensures { IfOk result (λ differs. (differs ≡ false → AgreesSealed mode (kuznyechik (hex_bytes vector.entry.key.now)) (magma (hex_bytes vector.entry.tag_key.now)) vector.entry)) }
+) -> anyhow::Result<Verdict>
+    ensures { IfOk result (λ v. (v ≡ Verdict.Agrees → (m o : Meaning) → Same (C.BlockCipher.meaning cipher.old) m → Same (T.BlockCipher.meaning tag_cipher.old) o → AgreesSealed vector.entry.mode m o vector.entry)) }
 {
     let heap = rt.alloc();
     let input = inputs::sealed_input(heap, vector)?;
-    let key = key_of(heap, vector.key)?;
-    let tag_key = key_of(heap, vector.tag_key)?;
-    let mut tables = KuznyechikTables::prepare(&key);
-    let mut tables_tag = Magma::prepare(&tag_key);
-    let tables_trial = trial::try_sealed(heap, mode, &mut tables, &mut tables_tag, &input)?;
-    let mut plain = Kuznyechik::prepare(&key);
-    let mut plain_tag = Magma::prepare(&tag_key);
-    let plain_trial = trial::try_sealed(heap, mode, &mut plain, &mut plain_tag, &input)?;
-    let plain_differs = report_sealed(rt, number, "Kuznyechik", plain_trial)?;
-    let tables_differ = report_sealed(rt, number, "Kuznyechik by tables", tables_trial)?;
-    let differs = either(plain_differs, tables_differ);
-    Ok(differs)
+    let trial = trial::try_sealed(heap, vector.mode, cipher, tag_cipher, &input)?;
+    report_sealed(rt, number, name, trial)
 }
 
-// Magma; the tag by Kuznyechik by tables.
-fn run_magma(
+fn run_mac<C: BlockCipher>(
     rt: &HostRuntime,
     number: u64,
-    mode: Mode,
+    name: &str,
+    cipher: &mut C,
+    vector: MacVector<'_>,
+) -> anyhow::Result<Verdict>
+    ensures { IfOk result (λ v. (v ≡ Verdict.Agrees → (m : Meaning) → Same (C.BlockCipher.meaning cipher.old) m → AgreesMac m vector.entry)) }
+{
+    let input = inputs::mac_input(rt.alloc(), vector)?;
+    let trial = trial::try_mac(cipher, &input);
+    report_mac(rt, number, name, trial)
+}
+
+// Kuznyechik, plain and by tables, with the tag by Magma; or Magma, with the tag by Kuznyechik by tables.
+fn run_sealed_vector(
+    rt: &HostRuntime,
+    number: u64,
     vector: SealedVector<'_>,
-) -> anyhow::Result<bool>
-    ensures { IfOk result (λ differs. (differs ≡ false → AgreesSealed mode (magma (hex_bytes vector.entry.key.now)) (kuznyechik (hex_bytes vector.entry.tag_key.now)) vector.entry)) }
+) -> anyhow::Result<Verdict>
+    ensures { IfOk result (λ v. (v ≡ Verdict.Agrees → HoldsSealed vector.entry)) }
 {
-    let heap = rt.alloc();
-    let input = inputs::sealed_input(heap, vector)?;
-    let key = key_of(heap, vector.key)?;
-    let tag_key = key_of(heap, vector.tag_key)?;
-    let mut cipher = Magma::prepare(&key);
-    let mut tag_cipher = KuznyechikTables::prepare(&tag_key);
-    let trial = trial::try_sealed(heap, mode, &mut cipher, &mut tag_cipher, &input)?;
-    let differs = report_sealed(rt, number, "Magma", trial)?;
-    Ok(differs)
-}
-
-// The MAC by Kuznyechik, plain and by tables.
-fn run_kuznyechik_mac(rt: &HostRuntime, number: u64, vector: MacVector<'_>) -> anyhow::Result<bool>
-    ensures { IfOk result (λ differs. (differs ≡ false → AgreesMac (kuznyechik (hex_bytes vector.entry.key.now)) vector.entry)) }
-{
-    let heap = rt.alloc();
-    let input = inputs::mac_input(heap, vector)?;
-    let key = key_of(heap, vector.key)?;
-    let mut plain = Kuznyechik::prepare(&key);
-    let plain_trial = trial::try_mac(&mut plain, &input);
-    let mut tables = KuznyechikTables::prepare(&key);
-    let tables_trial = trial::try_mac(&mut tables, &input);
-    let plain_differs = report_mac(rt, number, "Kuznyechik", plain_trial)?;
-    let tables_differ = report_mac(rt, number, "Kuznyechik by tables", tables_trial)?;
-    let differs = either(plain_differs, tables_differ);
-    Ok(differs)
-}
-
-fn run_magma_mac(rt: &HostRuntime, number: u64, vector: MacVector<'_>) -> anyhow::Result<bool>
-    ensures { IfOk result (λ differs. (differs ≡ false → AgreesMac (magma (hex_bytes vector.entry.key.now)) vector.entry)) }
-{
-    let heap = rt.alloc();
-    let input = inputs::mac_input(heap, vector)?;
-    let key = key_of(heap, vector.key)?;
-    let mut cipher = Magma::prepare(&key);
-    let trial = trial::try_mac(&mut cipher, &input);
-    let differs = report_mac(rt, number, "Magma", trial)?;
-    Ok(differs)
-}
-
-// Runs every vector, and prints a line for each difference.
-fn run_table(rt: &HostRuntime) -> anyhow::Result<Tally>
-    ensures { IfOk result (λ t. t.differ ≤ t.vectors) }
-{
-    let mut tally = Tally::new();
-    let mut number: u64 = 0;
-    for line in BufReader::new(rt.alloc(), rt.stdin())?.lines(rt.alloc()) {
-        let line = line?;
-        number = number.saturating_add(1);
-        match table::read_entry(line.as_str()) {
-            Entry::Comment => {}
-            Entry::Sealed(mode, Cipher::Kuznyechik, vector) => {
-                let differs = run_kuznyechik(rt, number, mode, vector)?;
-                tally.count(differs);
-            }
-            Entry::Sealed(mode, Cipher::Magma, vector) => {
-                let differs = run_magma(rt, number, mode, vector)?;
-                tally.count(differs);
-            }
-            Entry::Mac(Cipher::Kuznyechik, vector) => {
-                let differs = run_kuznyechik_mac(rt, number, vector)?;
-                tally.count(differs);
-            }
-            Entry::Mac(Cipher::Magma, vector) => {
-                let differs = run_magma_mac(rt, number, vector)?;
-                tally.count(differs);
-            }
-            Entry::Neither => {
-                println!(rt; "differs: {number}: no vector")?;
-                tally.count(true);
-            }
+    let key = key_of(rt.alloc(), vector.key)?;
+    let tag_key = key_of(rt.alloc(), vector.tag_key)?;
+    match vector.cipher {
+        CipherKind::Kuznyechik => {
+            let mut plain = Kuznyechik::prepare(&key);
+            let mut tag = Magma::prepare(&tag_key);
+            let plain = run_sealed(rt, number, "Kuznyechik", &mut plain, &mut tag, vector)?;
+            let mut tables = KuznyechikTables::prepare(&key);
+            let mut tag = Magma::prepare(&tag_key);
+            let name = "Kuznyechik by tables";
+            let tables = run_sealed(rt, number, name, &mut tables, &mut tag, vector)?;
+            Ok(plain.and(tables))
+        }
+        CipherKind::Magma => {
+            let mut cipher = Magma::prepare(&key);
+            let mut tag = KuznyechikTables::prepare(&tag_key);
+            run_sealed(rt, number, "Magma", &mut cipher, &mut tag, vector)
         }
     }
-    Ok(tally)
+}
+
+// The MAC by Kuznyechik, plain and by tables, or by Magma.
+fn run_mac_vector(rt: &HostRuntime, number: u64, vector: MacVector<'_>) -> anyhow::Result<Verdict>
+    ensures { IfOk result (λ v. (v ≡ Verdict.Agrees → HoldsMac vector.entry)) }
+{
+    let key = key_of(rt.alloc(), vector.key)?;
+    match vector.cipher {
+        CipherKind::Kuznyechik => {
+            let mut plain = Kuznyechik::prepare(&key);
+            let mut tables = KuznyechikTables::prepare(&key);
+            let plain = run_mac(rt, number, "Kuznyechik", &mut plain, vector)?;
+            let tables = run_mac(rt, number, "Kuznyechik by tables", &mut tables, vector)?;
+            Ok(plain.and(tables))
+        }
+        CipherKind::Magma => run_mac(rt, number, "Magma", &mut Magma::prepare(&key), vector),
+    }
+}
+
+fn run_vector(rt: &HostRuntime, number: u64, vector: Vector<'_>) -> anyhow::Result<Verdict>
+    ensures { IfOk result (λ v. (v ≡ Verdict.Agrees → Holds vector.entry)) }
+{
+    match vector {
+        Vector::Sealed(vector) => run_sealed_vector(rt, number, vector),
+        Vector::Mac(vector) => run_mac_vector(rt, number, vector),
+    }
+}
+
+fn run_line(rt: &HostRuntime, number: u64, line: &str) -> anyhow::Result<Option<Verdict>>
+    ensures { IfOk result (Judges HoldsIn line.now) }
+{
+    match table::read_entry(line) {
+        Ok(None) => Ok(None),
+        Ok(Some(vector)) => Ok(Some(run_vector(rt, number, vector)?)),
+        Err(NoCase) => {
+            println!(rt; "differs: {number}: no vector")?;
+            Ok(Some(Verdict::Differs))
+        }
+    }
 }
 
 fn main(rt: HostRuntime) -> anyhow::Result<()> {
-    let Tally { vectors, differ } = run_table(&rt)?;
-    println!(rt; "{vectors} vectors, {differ} differ")?;
+    let Tally { cases, differ } = run_table(&rt, |number, line| run_line(&rt, number, line))?;
+    println!(rt; "{cases} vectors, {differ} differ")?;
     Ok(())
 }

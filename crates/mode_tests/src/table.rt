@@ -1,11 +1,16 @@
 // The lines of the table.
 ghost use Rattle.std.specs.Prelude.{◌≡◌, ℕ, List, IfSome, MatchOption};
-ghost use Rattle.mode_tests.specs.Entries.{MacIn, Reads, SealedIn, cipher_name, ◌␣◌};
+ghost use Rattle.mode_tests.specs.Entries.{MacIn, Reads, SealedIn, VectorIn, ◌␣◌};
+
+use sheet_format::{CipherKind, Mode};
+use test_tables::{NoCase, is_comment, read_cipher};
 
 // A text of a body and what becomes of it under a key and START, with the tag of that under another key: in hexadecimal digits.
 // The cuttings say in which pieces the text is fed.
 #[derive(Clone, Copy)]
 pub struct SealedVector<'a> {
+    pub mode: Mode,
+    pub cipher: CipherKind,
     pub key: &'a str,
     pub start: &'a str,
     pub cutting: &'a str,
@@ -19,6 +24,7 @@ pub struct SealedVector<'a> {
 // A text and its MAC.
 #[derive(Clone, Copy)]
 pub struct MacVector<'a> {
+    pub cipher: CipherKind,
     pub key: &'a str,
     pub cutting: &'a str,
     pub other_cutting: &'a str,
@@ -26,25 +32,11 @@ pub struct MacVector<'a> {
     pub mac: &'a str,
 }
 
+// What a line orders: a body to seal and open, or a MAC.
 #[derive(Clone, Copy)]
-pub enum Mode {
-    Ctr,
-    Cbc,
-}
-
-#[derive(Clone, Copy)]
-pub enum Cipher {
-    Kuznyechik,
-    Magma,
-}
-
-// What a line of the table is.
-#[derive(Clone, Copy)]
-pub enum Entry<'a> {
-    Comment,
-    Sealed(Mode, Cipher, SealedVector<'a>),
-    Mac(Cipher, MacVector<'a>),
-    Neither,
+pub enum Vector<'a> {
+    Sealed(SealedVector<'a>),
+    Mac(MacVector<'a>),
 }
 
 // The first word, and what stands behind it.
@@ -54,9 +46,9 @@ fn first_word<'a>(line: &'a str) -> Option<(&'a str, &'a str)>
     line.split_once(" ")
 }
 
-// Eight words.
-fn read_sealed<'a>(words: &'a str) -> Option<SealedVector<'a>>
-    ensures { IfSome result (SealedIn words.now) }
+// Eight words behind the mode and the cipher.
+fn read_sealed<'a>(mode: Mode, cipher: CipherKind, words: &'a str) -> Option<SealedVector<'a>>
+    ensures { IfSome result (λ v. (v.mode ≡ mode) × (v.cipher ≡ cipher) × SealedIn words.now v) }
 {
     let (key, words) = first_word(words)?;
     let (start, words) = first_word(words)?;
@@ -66,6 +58,8 @@ fn read_sealed<'a>(words: &'a str) -> Option<SealedVector<'a>>
     let (sealed, words) = first_word(words)?;
     let (tag_key, tag) = first_word(words)?;
     Some(SealedVector {
+        mode,
+        cipher,
         key,
         start,
         cutting,
@@ -77,15 +71,16 @@ fn read_sealed<'a>(words: &'a str) -> Option<SealedVector<'a>>
     })
 }
 
-// Five words.
-fn read_mac<'a>(words: &'a str) -> Option<MacVector<'a>>
-    ensures { IfSome result (MacIn words.now) }
+// Five words behind the cipher.
+fn read_mac<'a>(cipher: CipherKind, words: &'a str) -> Option<MacVector<'a>>
+    ensures { IfSome result (λ v. (v.cipher ≡ cipher) × MacIn words.now v) }
 {
     let (key, words) = first_word(words)?;
     let (cutting, words) = first_word(words)?;
     let (other_cutting, words) = first_word(words)?;
     let (text, mac) = first_word(words)?;
     Some(MacVector {
+        cipher,
         key,
         cutting,
         other_cutting,
@@ -94,44 +89,30 @@ fn read_mac<'a>(words: &'a str) -> Option<MacVector<'a>>
     })
 }
 
-fn read_cipher(name: &str) -> Option<Cipher>
-    ensures { IfSome result (λ c. name.now ≡ cipher_name c) }
-{
-    if name == "kuz" {
-        Some(Cipher::Kuznyechik)
-    } else if name == "magma" {
-        Some(Cipher::Magma)
-    } else {
-        None
-    }
-}
-
-// What stands in a line that is no comment: the mode, the cipher, the words of the vector.
-fn read_vector<'a>(line: &'a str) -> Option<Entry<'a>>
-    ensures { IfSome result (λ e. Reads line.now e) }
+// What stands in a line: the mode, the cipher, the words of the vector.
+fn read_vector<'a>(line: &'a str) -> Option<Vector<'a>>
+    ensures { IfSome result (VectorIn line.now) }
 {
     let (mode, words) = first_word(line)?;
     let (name, words) = first_word(words)?;
     let cipher = read_cipher(name)?;
-    if mode == "ctr" {
-        Some(Entry::Sealed(Mode::Ctr, cipher, read_sealed(words)?))
-    } else if mode == "cbc" {
-        Some(Entry::Sealed(Mode::Cbc, cipher, read_sealed(words)?))
-    } else if mode == "mac" {
-        Some(Entry::Mac(cipher, read_mac(words)?))
-    } else {
-        None
+    match mode {
+        "ctr" => Some(Vector::Sealed(read_sealed(Mode::Ctr, cipher, words)?)),
+        "cbc" => Some(Vector::Sealed(read_sealed(Mode::Cbc, cipher, words)?)),
+        "mac" => Some(Vector::Mac(read_mac(cipher, words)?)),
+        _ => None,
     }
 }
 
-pub fn read_entry<'a>(line: &'a str) -> Entry<'a>
+// The vector that stands in a line, if it is no comment.
+pub fn read_entry<'a>(line: &'a str) -> Result<Option<Vector<'a>>, NoCase>
     ensures { Reads line.now result }
 {
-    if let [] | [b'#', ..] = line.as_bytes() {
-        return Entry::Comment;
+    if is_comment(line) {
+        return Ok(None);
     }
     match read_vector(line) {
-        Some(entry) => entry,
-        None => Entry::Neither,
+        Some(vector) => Ok(Some(vector)),
+        None => Err(NoCase),
     }
 }

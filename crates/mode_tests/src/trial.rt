@@ -4,12 +4,14 @@ ghost use Rattle.block.specs.Blocks.{Same};
 ghost use Rattle.mode_tests.specs.Agreement.{ConfirmsMac, ConfirmsSealed, OpenedBy, sealed_by};
 ghost use Rattle.mode_tests.specs.Runs.{SealedAs};
 
+use super::cbc_runs::{Extent, OpenError};
 use super::inputs::{MacInput, SealedInput};
-use super::table::Mode;
+use super::pieces::Feed;
 use super::tagged::Sealed;
 use super::{cbc_runs, ctr_runs, macs};
 use anyhow::anyhow;
 use block::BlockCipher;
+use sheet_format::Mode;
 use std::alloc::Global;
 
 // Whether the text is sealed as the table says, its tag is that of the table, and the sealed text opens to it in both cuttings.
@@ -27,29 +29,20 @@ pub struct MacTrial {
     pub other: bool,
 }
 
-// A sealed text of which so many blocks stand before the last, and `rest` bytes of the last are text.
-#[derive(Clone, Copy)]
-pub struct Extent {
-    pub before: u32,
-    pub rest: usize,
-}
-
 fn seal<C: BlockCipher, T: BlockCipher>(
     heap: Global,
     mode: Mode,
     cipher: &mut C,
     tag_cipher: &mut T,
-    start: &[u8; 16],
-    cutting: &[u8],
-    text: &[u8],
+    feed: Feed<'_>,
 ) -> anyhow::Result<Sealed>
-    ensures sealed { IfOk result (SealedAs (C.BlockCipher.meaning cipher.old) (T.BlockCipher.meaning tag_cipher.old) (λ m. sealed_by mode m start.now text.now)) }
+    ensures sealed { IfOk result (SealedAs (C.BlockCipher.meaning cipher.old) (T.BlockCipher.meaning tag_cipher.old) (λ m. sealed_by mode m feed.entry.start.now feed.entry.text.now)) }
     ensures same { Same (C.BlockCipher.meaning cipher.old) (C.BlockCipher.meaning cipher.new) }
     ensures tag_same { Same (T.BlockCipher.meaning tag_cipher.old) (T.BlockCipher.meaning tag_cipher.new) }
 {
     match mode {
-        Mode::Ctr => ctr_runs::run(heap, cipher, tag_cipher, start, cutting, text),
-        Mode::Cbc => cbc_runs::seal(heap, cipher, tag_cipher, start, cutting, text),
+        Mode::Ctr => ctr_runs::run(heap, cipher, tag_cipher, feed),
+        Mode::Cbc => cbc_runs::seal(heap, cipher, tag_cipher, feed),
     }
 }
 
@@ -59,28 +52,22 @@ fn open<C: BlockCipher, T: BlockCipher>(
     mode: Mode,
     cipher: &mut C,
     tag_cipher: &mut T,
-    start: &[u8; 16],
-    cutting: &[u8],
-    sealed: &[u8],
+    feed: Feed<'_>,
     extent: Extent,
 ) -> anyhow::Result<Option<Vec<u8>>>
-    ensures { IfOk result (λ o. IfSome o (λ v. OpenedBy mode (C.BlockCipher.meaning cipher.old) start.now extent.before extent.rest sealed.now v.items)) }
+    ensures { IfOk result (λ o. IfSome o (λ v. OpenedBy mode (C.BlockCipher.meaning cipher.old) feed.entry.start.now extent.before extent.rest feed.entry.text.now v.items)) }
 {
     match mode {
         Mode::Ctr => {
-            let outcome = ctr_runs::run(heap, cipher, tag_cipher, start, cutting, sealed)?;
+            let outcome = ctr_runs::run(heap, cipher, tag_cipher, feed)?;
             let Sealed { bytes, tag: _ } = outcome;
             Ok(Some(bytes))
         }
-        Mode::Cbc => cbc_runs::open(
-            heap,
-            cipher,
-            start,
-            cutting,
-            sealed,
-            extent.before,
-            extent.rest,
-        ),
+        Mode::Cbc => match cbc_runs::open(heap, cipher, feed, extent) {
+            Ok(bytes) => Ok(Some(bytes)),
+            Err(OpenError::Refused(_)) => Ok(None),
+            Err(OpenError::OutOfMemory(error)) => Err(error.into()),
+        },
     }
 }
 
@@ -113,16 +100,12 @@ fn opens<C: BlockCipher, T: BlockCipher>(
 {
     let extent = extent_of(cipher.block_length(), input.text.len())?;
     let sealed = input.sealed.as_slice();
-    let opened = open(
-        heap,
-        mode,
-        cipher,
-        tag_cipher,
-        &input.start,
+    let feed = Feed {
+        start: &input.start,
         cutting,
-        sealed,
-        extent,
-    )?;
+        text: sealed,
+    };
+    let opened = open(heap, mode, cipher, tag_cipher, feed, extent)?;
     match opened {
         Some(bytes) => Ok(*bytes.as_slice() == *input.text.as_slice()),
         None => Ok(false),
@@ -140,7 +123,12 @@ pub fn try_sealed<C: BlockCipher, T: BlockCipher>(
 {
     let cutting = input.cutting.as_slice();
     let text = input.text.as_slice();
-    let sealed = seal(heap, mode, cipher, tag_cipher, &input.start, cutting, text)?;
+    let feed = Feed {
+        start: &input.start,
+        cutting,
+        text,
+    };
+    let sealed = seal(heap, mode, cipher, tag_cipher, feed)?;
     let seals = *sealed.bytes.as_slice() == *input.sealed.as_slice();
     let tags = sealed.tag == input.tag;
     let first = opens(heap, mode, cipher, tag_cipher, input, cutting)?;

@@ -1,4 +1,4 @@
 pub mod Texts
-pub mod Entries
+pub mod Differences
 pub mod Escapes
 pub mod Agreement

@@ -1,5 +1,5 @@
 -- The answer of `check` as the table writes it.
-use Rattle.std.specs.Prelude.{ℕ, Bool, true, ◌&&◌, List, [], ◌∷◌, ◌++◌, Ok, Err, codes, decimal, Result, ◌==◌}
+use Rattle.std.specs.Prelude.{ℕ, List, ◌++◌, Ok, Err, codes, decimal, Result}
 use Rattle.sheet_format.specs.Faults.{number_of, place_of}
 use Rattle.sheet_format.specs.declared.Checked.{Checked}
 use Rattle.sheet_format.specs.declared.SheetFault.{SheetFault}
@@ -12,7 +12,3 @@ three_numbers word a b c = word ++ (decimal a ++ (codes " " ++ (decimal b ++ (co
 abbrev pub answer_text : Result Checked SheetFault → List ℕ
 answer_text (Ok c) = three_numbers (codes "ok ") c.block_length c.bodies c.blocks
 answer_text (Err f) = three_numbers (codes "no ") 2 (number_of f) (place_of f)
-
-abbrev pub all_are : ℕ → List ℕ → Bool
-all_are v [] = true
-all_are v (x ∷ xs) = x == v && all_are v xs

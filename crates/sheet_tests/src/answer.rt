@@ -2,6 +2,7 @@
 ghost use Rattle.std.specs.Prelude.{Some};
 ghost use Rattle.sheet_tests.specs.Texts.{answer_text};
 
+use fault::FaultCode;
 use sheet_format::{Checked, SheetFault};
 use std::fmt;
 
@@ -18,9 +19,8 @@ impl fmt::Display for Answer {
                 write!(f, "ok {n} {bodies} {blocks}")
             }
             Err(fault) => {
-                let code = fault.code();
-                let (layer, number, place) = (code.layer, code.number, code.place);
-                write!(f, "no {layer} {number} {place}")
+                let code = FaultCode::from(fault);
+                write!(f, "no {code}")
             }
         }
     }

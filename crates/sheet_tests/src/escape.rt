@@ -2,7 +2,7 @@
 ghost use Rattle.std.specs.Prelude.{◌≡◌, ℕ, ◌<◌, length, IfSome, IfOk};
 ghost use Rattle.sheet_tests.specs.Escapes.{Means, byte_model, escaped_byte, first_byte, hex_byte, pair_value};
 
-use anyhow::anyhow;
+use anyhow::Context;
 use std::alloc::Global;
 
 // The byte of two hexadecimal digits.
@@ -57,9 +57,7 @@ pub fn unescape(heap: Global, text: &[u8]) -> anyhow::Result<Vec<u8>>
     let mut bytes = Vec::new(heap);
     let mut rest = text;
     while !rest.is_empty() {
-        let Some((b, tail)) = first_byte(rest) else {
-            return Err(anyhow!("a backslash with no escape"));
-        };
+        let (b, tail) = first_byte(rest).context("a backslash with no escape")?;
         bytes.push(b)?;
         rest = tail;
     }

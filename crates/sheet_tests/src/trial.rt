@@ -1,9 +1,10 @@
 // One sheet in three work areas: of 1,792 bytes, of 8 more, and of one less.
-ghost use Rattle.std.specs.Prelude.{◌≡◌, ℕ, false, not, ◌&&◌, is_some, IfOk};
+ghost use Rattle.std.specs.Prelude.{◌≡◌, ◌<◌, ◌^◌, Some, false, not, ◌&&◌, is_some, IfOk};
 ghost use Rattle.std.specs.Str.{bytes_eq};
 ghost use Rattle.sheet_format.specs.Orders.{checked_of};
 ghost use Rattle.sheet_tests.specs.Agreement.{Expects};
-ghost use Rattle.sheet_tests.specs.Texts.{all_are, answer_text};
+ghost use Rattle.sheet_tests.specs.Differences.{difference_text};
+ghost use Rattle.sheet_tests.specs.Texts.{answer_text};
 
 use super::answer::Answer;
 use std::alloc::{AllocError, Global};
@@ -30,6 +31,8 @@ pub enum Difference {
 }
 
 impl fmt::Display for Difference {
+    ghost output = { λ d. Some (difference_text d) };
+
     fn fmt<W: fmt::Write>(&self, f: &mut fmt::Formatter<W>) -> fmt::Result {
         match *self {
             Difference::Answer { got, length } => write!(f, "{got} with a work area of {length}"),
@@ -38,55 +41,20 @@ impl fmt::Display for Difference {
     }
 }
 
-fn all_are(bytes: &[u8], value: u8) -> bool
-    ensures { result ≡ all_are value bytes.now }
+// What `check` does in a work area of N bytes. The part that it uses is zeros afterwards, and what lies behind it, or an area that is
+// too short, stays as it was.
+fn in_area<const N: usize>(sheet: &[u8]) -> Trial
+    requires { N < 2 ^ 63 }
+    ensures { result.answer.0 ≡ checked_of N sheet.now }
 {
-    for b in bytes {
-        if *b != value {
-            return false;
-        }
-    }
-    true
-}
-
-fn in_exact_area(sheet: &[u8]) -> Trial
-    ensures { result.answer.0 ≡ checked_of 1792 sheet.now }
-{
-    let mut work = [FILL; WORK_LENGTH];
+    let mut work = [FILL; N];
     let answer = Answer(sheet::check(sheet, &mut work));
-    let work_is_right = all_are(&work, 0);
+    let used = if N < WORK_LENGTH { 0 } else { WORK_LENGTH };
+    let (front, rest) = work.split_at(used);
     Trial {
-        length: WORK_LENGTH,
+        length: N,
         answer,
-        work_is_right,
-    }
-}
-
-// What lies behind the part that `check` uses stays as it was.
-fn in_longer_area(sheet: &[u8]) -> Trial
-    ensures { result.answer.0 ≡ checked_of 1800 sheet.now }
-{
-    let mut work = [FILL; 1_800];
-    let answer = Answer(sheet::check(sheet, &mut work));
-    let work_is_right = all_are(&work[0..WORK_LENGTH], 0) && all_are(&work[WORK_LENGTH..], FILL);
-    Trial {
-        length: 1_800,
-        answer,
-        work_is_right,
-    }
-}
-
-// A work area that is too short stays as it was.
-fn in_short_area(sheet: &[u8]) -> Trial
-    ensures { result.answer.0 ≡ checked_of 1791 sheet.now }
-{
-    let mut work = [FILL; 1_791];
-    let answer = Answer(sheet::check(sheet, &mut work));
-    let work_is_right = all_are(&work, FILL);
-    Trial {
-        length: 1_791,
-        answer,
-        work_is_right,
+        work_is_right: front.iter().all(|b| *b == 0) && rest.iter().all(|b| *b == FILL),
     }
 }
 
@@ -113,8 +81,8 @@ pub fn first_difference(
 ) -> Result<Option<Difference>, AllocError>
     ensures { IfOk result (λ d. (is_some d ≡ false → Expects expected.now sheet.now)) }
 {
-    let exact = judge(heap, in_exact_area(sheet), expected)?;
-    let longer = judge(heap, in_longer_area(sheet), expected)?;
-    let short = judge(heap, in_short_area(sheet), "no 2 10 0")?;
+    let exact = judge(heap, in_area::<WORK_LENGTH>(sheet), expected)?;
+    let longer = judge(heap, in_area::<1_800>(sheet), expected)?;
+    let short = judge(heap, in_area::<1_791>(sheet), "no 2 10 0")?;
     Ok(exact.or(longer).or(short))
 }

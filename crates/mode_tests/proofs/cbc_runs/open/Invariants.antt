@@ -8,4 +8,4 @@ abbrev pub invariant-loop-cut : goal.invariant-loop-cut
 invariant-loop-cut g l =
     let m = g.C.BlockCipher.meaning l.initial.cipher in
     Same m (g.C.BlockCipher.meaning l.cipher)
-    × Fed (λ taken. (p : Meaning) → Same p m → CbcOpenAt p (take p.size l.start) l.before taken l.opener × (vec_items l.out ≡ opened_so_far p (take p.size l.start) l.before taken)) l.left l.sealed
+    × Fed (λ taken. (p : Meaning) → Same p m → CbcOpenAt p (take p.size l.fn.feed.start.now) l.fn.extent.before taken l.opener × (vec_items l.out ≡ opened_so_far p (take p.size l.fn.feed.start.now) l.fn.extent.before taken)) l.left l.fn.feed.text.now

@@ -11,4 +11,4 @@ invariant-loop-cut g l =
     let o = g.T.BlockCipher.meaning l.initial.tag_cipher in
     Same m (g.C.BlockCipher.meaning l.cipher)
     × Same o (g.T.BlockCipher.meaning l.tag_cipher)
-    × Fed (λ taken. (p q : Meaning) → Same p m → Same q o → CbcAt p (take p.size l.start) taken l.sealer × TaggedAt q (sealed_so_far p (take p.size l.start) taken) l.out) l.rest l.text
+    × Fed (λ taken. (p q : Meaning) → Same p m → Same q o → CbcAt p (take p.size l.fn.feed.start.now) taken l.sealer × TaggedAt q (sealed_so_far p (take p.size l.fn.feed.start.now) taken) l.out) l.rest l.fn.feed.text.now

@@ -16,11 +16,11 @@ loop-cut-init g c =
     let k = g.met.T.BlockCipher.lawful c.args.tag_cipher.now in (
       same_self m,
       same_self o,
-      fed-none (λ taken. (p q : Meaning) → Same p m → Same q o → CtrAt p (take (p.size / 2) c.args.start.now) taken c.new-stream.result × TaggedAt q (ctr p (take (p.size / 2) c.args.start.now) taken) c.new-out.result)
-          c.args.text.now
+      fed-none (λ taken. (p q : Meaning) → Same p m → Same q o → CtrAt p (take (p.size / 2) c.args.feed.start.now) taken c.new-stream.result × TaggedAt q (ctr p (take (p.size / 2) c.args.feed.start.now) taken) c.new-out.result)
+          c.args.feed.text.now
           (λ p q e f. (
             c.new-stream.ensures p (lawful-same p m e l),
-            subst (λ (x : List ℕ). TaggedAt q x c.new-out.result) (sym (ctr-nil p (take (p.size / 2) c.args.start.now) (lawful-same p m e l))) (c.new-out.ensures q (lawful-same q o f k)),
+            subst (λ (x : List ℕ). TaggedAt q x c.new-out.result) (sym (ctr-nil p (take (p.size / 2) c.args.feed.start.now) (lawful-same p m e l))) (c.new-out.ensures q (lawful-same q o f k)),
           )),
     )
 
@@ -38,9 +38,9 @@ loop-cut-preserved g c =
     let t = c.loop-cut.invariant.1 in (
       same_then m _ _ s c.run_piece.ensures.same,
       same_then o _ _ t c.run_piece.ensures.tag_same,
-      fed-piece (λ taken. (p q : Meaning) → Same p m → Same q o → CtrAt p (take (p.size / 2) c.args.start.now) taken c.loop-cut.stream × TaggedAt q (ctr p (take (p.size / 2) c.args.start.now) taken) c.loop-cut.out)
-          (λ taken. (p q : Meaning) → Same p m → Same q o → CtrAt p (take (p.size / 2) c.args.start.now) taken c.run_piece.new.stream × TaggedAt q (ctr p (take (p.size / 2) c.args.start.now) taken) c.run_piece.new.out)
-          _ _ c.loop-cut.rest.now c.args.text.now c.cut_off.ensures.joined
+      fed-piece (λ taken. (p q : Meaning) → Same p m → Same q o → CtrAt p (take (p.size / 2) c.args.feed.start.now) taken c.loop-cut.stream × TaggedAt q (ctr p (take (p.size / 2) c.args.feed.start.now) taken) c.loop-cut.out)
+          (λ taken. (p q : Meaning) → Same p m → Same q o → CtrAt p (take (p.size / 2) c.args.feed.start.now) taken c.run_piece.new.stream × TaggedAt q (ctr p (take (p.size / 2) c.args.feed.start.now) taken) c.run_piece.new.out)
+          _ _ c.loop-cut.rest.now c.args.feed.text.now c.cut_off.ensures.joined
           (λ taken h p q e f. c.in_ok-run_piece.ensures.sealed p q _ taken (same_then p m _ e s) (same_then q o _ f t) (h p q e f).0 (h p q e f).1) c.loop-cut.invariant.2,
     )
 
@@ -54,18 +54,18 @@ pub returns : goal.returns
 returns g c =
     let m = g.C.BlockCipher.meaning c.args.cipher.now in
     let o = g.T.BlockCipher.meaning c.args.tag_cipher.now in
-    let text = c.args.text.now in
+    let text = c.args.feed.text.now in
     let s = c.loop-cut.invariant.0 in
     let t = c.loop-cut.invariant.1 in
     let s2 = same_then m _ _ s c.run_piece-2.ensures.same in
     let t2 = same_then o _ _ t c.run_piece-2.ensures.tag_same in
     let at =
-    fed-all (λ taken. (p q : Meaning) → Same p m → Same q o → CtrAt p (take (p.size / 2) c.args.start.now) taken c.loop-cut.stream × TaggedAt q (ctr p (take (p.size / 2) c.args.start.now) taken) c.loop-cut.out)
-    (λ taken. (p q : Meaning) → Same p m → Same q o → CtrAt p (take (p.size / 2) c.args.start.now) taken c.run_piece-2.new.stream × TaggedAt q (ctr p (take (p.size / 2) c.args.start.now) taken) c.run_piece-2.new.out)
+    fed-all (λ taken. (p q : Meaning) → Same p m → Same q o → CtrAt p (take (p.size / 2) c.args.feed.start.now) taken c.loop-cut.stream × TaggedAt q (ctr p (take (p.size / 2) c.args.feed.start.now) taken) c.loop-cut.out)
+    (λ taken. (p q : Meaning) → Same p m → Same q o → CtrAt p (take (p.size / 2) c.args.feed.start.now) taken c.run_piece-2.new.stream × TaggedAt q (ctr p (take (p.size / 2) c.args.feed.start.now) taken) c.run_piece-2.new.out)
     c.loop-cut.rest.now text
     (λ taken h p q e f. c.in_ok-run_piece-2.ensures.sealed p q _ taken (same_then p m _ e s) (same_then q o _ f t) (h p q e f).0 (h p q e f).1) c.loop-cut.invariant.2 in
     record {
-      sealed = λ p q e f. c.finish.ensures.finished q (ctr p (take (p.size / 2) c.args.start.now) text) (same_then q o _ f t2) (at p q e f).1;
+      sealed = λ p q e f. c.finish.ensures.finished q (ctr p (take (p.size / 2) c.args.feed.start.now) text) (same_then q o _ f t2) (at p q e f).1;
       same = s2;
       tag_same = same_then o _ _ t2 c.finish.ensures.same;
     }

@@ -12,4 +12,4 @@ invariant-loop-cut g l =
     let o = g.T.BlockCipher.meaning l.initial.tag_cipher in
     Same m (g.C.BlockCipher.meaning l.cipher)
     × Same o (g.T.BlockCipher.meaning l.tag_cipher)
-    × Fed (λ taken. (p q : Meaning) → Same p m → Same q o → CtrAt p (take (p.size / 2) l.start) taken l.stream × TaggedAt q (ctr p (take (p.size / 2) l.start) taken) l.out) l.rest l.text
+    × Fed (λ taken. (p q : Meaning) → Same p m → Same q o → CtrAt p (take (p.size / 2) l.fn.feed.start.now) taken l.stream × TaggedAt q (ctr p (take (p.size / 2) l.fn.feed.start.now) taken) l.out) l.rest l.fn.feed.text.now

@@ -1,5 +1,0 @@
-use Rattle.block.specs.Blocks.{Same}
-use Rattle.cipher_bench.proofs.measure.Given as goal
-
-abbrev pub invariant-loop : goal.invariant-loop
-invariant-loop g l = Same (g.C.BlockCipher.meaning l.initial.cipher) (g.C.BlockCipher.meaning l.cipher)

@@ -1,6 +1,0 @@
-use Rattle.std.proofs.Common.{rules}
-use Rattle.cipher_tests.proofs.Keys.{key-from}
-use Rattle.cipher_tests.proofs.digits.key_of.Goals as goal
-
-pub returns-in-Ok : goal.returns-in-Ok
-returns-in-Ok c = key-from c.args.digits.now c.in-Ok.key (search rules)

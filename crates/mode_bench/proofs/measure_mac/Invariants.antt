@@ -1,5 +1,0 @@
-use Rattle.block.specs.Blocks.{Same}
-use Rattle.mode_bench.proofs.measure_mac.Given as goal
-
-abbrev pub invariant-loop : goal.invariant-loop
-invariant-loop g l = Same (g.C.BlockCipher.meaning l.initial.cipher) (g.C.BlockCipher.meaning l.cipher)
