@@ -4,6 +4,7 @@ use Rattle.std.specs.List.{flat_map, AllByRecursion}
 use Rattle.std.proofs.lemmas.List.{length-take-le, take-append-drop, take-take, take_at, take_all, drop_at}
 use Rattle.std.proofs.lemmas.Bool.{cases_Bool, cases_order, and_parts, eqb-true, eqb-false, eq-eqb, leb-true, le-leb}
 use Rattle.sheet_format.specs.Orders.{BodyOrder, map_ok}
+use Rattle.sheet_format.proofs.Ciphers.{cipher-known}
 use Rattle.sheet_format.specs.Sizes.{cipher_with, block_length}
 use Rattle.sheet_format.specs.declared.CipherKind.{CipherKind}
 use Rattle.sheet_format.specs.declared.CipherKind.TheVariants.{Kuznyechik, Magma}
@@ -61,10 +62,6 @@ bytes-found m o e =
     (cases_Bool (eqb m 16)))
     (cases_Bool (eqb m 8))
 
-cipher-made : (c : CipherKind) → cipher_with (block_length c) ≡ Some c
-cipher-made Kuznyechik = refl
-cipher-made Magma = refl
-
 bytes-made : (m : ℕ) → IsBlockLength m → (l : BlockLength) × (with_bytes m ≡ Some l) × (bytes_of l ≡ m)
 bytes-made m h =
     ⊎_elim
@@ -111,7 +108,7 @@ read-if-from bytes s f =
     let few : length o.bodies ≤ 32 = p.0.few in
     ap contents_read f.are
     ∙ rw (
-      cipher-made c,
+      cipher-known c,
       m.1,
       le-leb 1 (length o.bodies) some,
       le-leb (length o.bodies) 32 few,

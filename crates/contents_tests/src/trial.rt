@@ -11,6 +11,7 @@ use super::answer::Answer;
 use contents::{Contents, read_contents};
 use contents_format::{BlockLength, ContentsFault};
 use fault::FaultCode;
+use sheet_format::WORK_LENGTH;
 use std::alloc::{AllocError, Global};
 use test_digits::bytes_of;
 
@@ -58,7 +59,7 @@ fn writes(contents: &Contents, bytes: &[u8]) -> bool
 fn made_of(sheet: &[u8], tag_block: BlockLength, bytes: &[u8]) -> bool
     ensures { result ≡ true → OrderedBy sheet.now (length_of tag_block) bytes.now }
 {
-    let mut work = [FILL; 1_792];
+    let mut work = [FILL; WORK_LENGTH];
     let Ok(contents) = Contents::of_sheet(sheet, &mut work, tag_block) else {
         return false;
     };

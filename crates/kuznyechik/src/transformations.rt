@@ -109,6 +109,7 @@ fn sixteen_steps<F: Fn([u8; 16]) -> [u8; 16]>(step: F, a: [u8; 16]) -> [u8; 16]
 {
     let mut b = a;
     for _ in 0..16u8 {
+        // in two steps: the checker does not cover an array that is replaced by a call on it
         let next = step(b);
         b = next;
     }

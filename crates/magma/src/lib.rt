@@ -62,7 +62,8 @@ fn joined_halves(a1: u32, a0: u32) -> [u8; 8]
     [a, b, c, d, e, f, g, h]
 }
 
-// G[k], one round, on the words a1 and a0.
+// G[k], one round, on the words a1 and a0, as the standard writes them: two words beside each other are no more than a struct of
+// them would be.
 pub fn round(k: u32, a1: u32, a0: u32) -> (u32, u32)
     ensures { (result.0, result.1) ≡ round_g k (a1, a0) }
 {
@@ -82,6 +83,7 @@ fn composed<F: Fn(usize) -> u32>(key_at: F, block: [u8; 8]) -> [u8; 8]
     ensures { (ks : List ℕ) → length ks ≡ 32 → ((i k : ℕ) → i < 32 → F.post key_at i k → k ≡ slice_index ks i) → result ≡ joined_halves (composed ks (halves block)) }
 {
     let (mut a1, mut a0) = halves(block);
+    // i is what the key is asked for
     for i in 0..31 {
         (a1, a0) = round(key_at(i), a1, a0);
     }

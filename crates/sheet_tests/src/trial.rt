@@ -7,13 +7,12 @@ ghost use Rattle.sheet_tests.specs.Differences.{difference_text};
 ghost use Rattle.sheet_tests.specs.Texts.{answer_text};
 
 use super::answer::Answer;
+use sheet_format::WORK_LENGTH;
 use std::alloc::{AllocError, Global};
 use std::fmt;
 
 // What every byte of a work area is before `check`.
 const FILL: u8 = 0xAA;
-
-const WORK_LENGTH: usize = 1_792;
 
 // What `check` did with a sheet: its answer, and whether it left the work area as it should.
 #[derive(Clone, Copy)]
