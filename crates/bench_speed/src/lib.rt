@@ -2,7 +2,9 @@
 #![tactic(auto)]
 
 ghost use Rattle.std.specs.Prelude.{◌≡◌, ◌-◌, ◌*◌, ◌/◌, ◌^◌, ◌≤◌, min, max, IfOk};
+ghost use Rattle.block.specs.Blocks.{Same};
 
+use block::BlockCipher;
 use std::time::Instant;
 
 // The bytes of one turn, as the disk delivers them.
@@ -22,18 +24,26 @@ pub fn turns_of(megabytes: u64) -> u64
     megabytes.saturating_mul(256)
 }
 
-// How many megabytes a second so many turns go over, if each takes one piece.
-pub fn measure<F: FnMut() -> anyhow::Result<()>>(
+// What is measured of a cipher. It is a trait and no closure: of what a closure borrows, a proof knows nothing afterwards.
+pub trait Turn<C: BlockCipher> {
+    // Goes over one piece. The cipher means the same afterwards.
+    fn turn(&mut self, cipher: &mut C) -> anyhow::Result<()>
+        ensures { Same (C.BlockCipher.meaning cipher.old) (C.BlockCipher.meaning cipher.new) };
+}
+
+// How many megabytes a second so many turns go over.
+pub fn measure<C: BlockCipher, T: Turn<C>>(
     rt: &HostRuntime,
+    cipher: &mut C,
     turns: u64,
-    mut turn: F,
+    piece: &mut T,
 ) -> anyhow::Result<u128>
-    requires { F.IsAlwaysCallable turn }
-    ensures { IfOk result (λ s. s ≤ turns * 4096000) }
+    ensures speed { IfOk result (λ s. s ≤ turns * 4096000) }
+    ensures same { Same (C.BlockCipher.meaning cipher.old) (C.BlockCipher.meaning cipher.new) }
 {
     let start = Instant::now(rt)?;
     for _ in 0..turns {
-        turn()?;
+        piece.turn(cipher)?;
     }
     Ok(speed(turns, start.elapsed(rt)?.as_nanos()))
 }

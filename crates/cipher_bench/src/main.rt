@@ -2,25 +2,64 @@
 // With no argument it says so, and measures nothing.
 #![tactic(auto)]
 
+ghost use Rattle.std.specs.Prelude.{◌≡◌, ◌<◌, ◌^◌, length, IsOk, IsErr};
+ghost use Rattle.block.specs.Blocks.{Same, block_after, block_answer};
+ghost use Rattle.cipher_bench.specs.Ways.{way_of};
+
 use anyhow::anyhow;
-use bench_speed::{measure, turns_of};
+use bench_speed::{Turn, measure, turns_of};
 use block::{BlockCipher, BlockFault};
 use kuznyechik::Kuznyechik;
 use kuznyechik_tables::KuznyechikTables;
 use magma::Magma;
 use std::env;
 
-// Replaces each of the blocks that lie one behind the other. One that is refused ends the turn.
-fn turn<const N: usize, F: FnMut(&mut [u8]) -> Result<(), BlockFault>>(
+#[derive(Clone, Copy)]
+enum Way {
+    Encipher,
+    Decipher,
+}
+
+// One block, replaced by its E or D.
+fn replace<C: BlockCipher>(cipher: &mut C, way: Way, block: &mut [u8]) -> Result<(), BlockFault>
+    ensures answer { result ≡ block_answer (C.BlockCipher.meaning cipher.old).size (length block.old) }
+    ensures after { block.new ≡ block_after (C.BlockCipher.meaning cipher.old).size (way_of way (C.BlockCipher.meaning cipher.old)) block.old }
+    ensures same { Same (C.BlockCipher.meaning cipher.old) (C.BlockCipher.meaning cipher.new) }
+{
+    match way {
+        Way::Encipher => cipher.encipher(block),
+        Way::Decipher => cipher.decipher(block),
+    }
+}
+
+// Blocks of N bytes that lie one behind the other. They are refused exactly if the cipher's block length is another.
+fn replace_all<C: BlockCipher, const N: usize>(
+    cipher: &mut C,
+    way: Way,
     blocks: &mut [[u8; N]],
-    mut replace: F,
-) -> anyhow::Result<()>
-    requires { F.IsAlwaysCallable replace }
+) -> Result<(), BlockFault>
+    ensures refused { IsErr result → ((C.BlockCipher.meaning cipher.old).size ≡ N → ⊥) }
+    ensures run { IsOk result → 0 < length blocks.old → (C.BlockCipher.meaning cipher.old).size ≡ N }
+    ensures same { Same (C.BlockCipher.meaning cipher.old) (C.BlockCipher.meaning cipher.new) }
 {
     for block in blocks.iter_mut() {
-        replace(block).map_err(|_| anyhow!("a block was refused"))?;
+        replace(cipher, way, block)?;
     }
     Ok(())
+}
+
+// A turn goes over all its blocks.
+#[derive(Drop)]
+struct Blocks<'a, const N: usize> {
+    way: Way,
+    blocks: &'a mut [[u8; N]],
+    ghost fits: { N < 2 ^ 63 },
+}
+
+impl<C: BlockCipher, const N: usize> Turn<C> for Blocks<'_, N> {
+    fn turn(&mut self, cipher: &mut C) -> anyhow::Result<()> {
+        replace_all(cipher, self.way, &mut *self.blocks).map_err(|_| anyhow!("a block was refused"))
+    }
 }
 
 // Both ways of a cipher over the blocks, turn after turn. It means the same afterwards.
@@ -30,9 +69,17 @@ fn run_cipher<C: BlockCipher, const N: usize>(
     cipher: &mut C,
     turns: u64,
     blocks: &mut [[u8; N]],
-) -> anyhow::Result<()> {
-    let forward = measure(rt, turns, || turn(blocks, |block| cipher.encipher(block)))?;
-    let inverse = measure(rt, turns, || turn(blocks, |block| cipher.decipher(block)))?;
+) -> anyhow::Result<()>
+    requires { N < 2 ^ 63 }
+    ensures { Same (C.BlockCipher.meaning cipher.old) (C.BlockCipher.meaning cipher.new) }
+{
+    let mut turn = Blocks {
+        way: Way::Encipher,
+        blocks,
+    };
+    let forward = measure(rt, cipher, turns, &mut turn)?;
+    turn.way = Way::Decipher;
+    let inverse = measure(rt, cipher, turns, &mut turn)?;
     println!(rt; "{name} {forward} {inverse}")?;
     Ok(())
 }

@@ -2,8 +2,10 @@
 // 4,096 bytes. With no argument it says so, and measures nothing.
 #![tactic(auto)]
 
+ghost use Rattle.block.specs.Blocks.{Same};
+
 use anyhow::anyhow;
-use bench_speed::{measure, turns_of};
+use bench_speed::{Turn, measure, speed, turns_of};
 use block::BlockCipher;
 use kuznyechik_tables::KuznyechikTables;
 use magma::Magma;
@@ -12,10 +14,92 @@ use modes::ctr::CtrStream;
 use modes::mac::Mac;
 use modes::opening::CbcOpener;
 use std::env;
+use std::time::Instant;
 
 const START: [u8; 16] = [0x5a; 16];
 
-// ctr, cbc sealed and opened, the MAC, and ctr with the MAC of what it makes under another key.
+#[derive(Drop)]
+struct Ctr<'a> {
+    stream: CtrStream,
+    piece: &'a mut [u8],
+}
+
+impl<C: BlockCipher> Turn<C> for Ctr<'_> {
+    fn turn(&mut self, cipher: &mut C) -> anyhow::Result<()> {
+        self.stream.apply(cipher, &mut *self.piece);
+        Ok(())
+    }
+}
+
+#[derive(Drop)]
+struct CbcSealing<'a> {
+    sealer: CbcSealer,
+    piece: &'a [u8],
+    out: &'a mut [u8],
+}
+
+impl<C: BlockCipher> Turn<C> for CbcSealing<'_> {
+    fn turn(&mut self, cipher: &mut C) -> anyhow::Result<()> {
+        match self.sealer.feed(cipher, self.piece, &mut *self.out) {
+            Ok(_) => Ok(()),
+            Err(_) => Err(anyhow!("cbc refuses a piece")),
+        }
+    }
+}
+
+#[derive(Drop)]
+struct CbcOpening<'a> {
+    opener: CbcOpener,
+    piece: &'a [u8],
+    out: &'a mut [u8],
+}
+
+impl<C: BlockCipher> Turn<C> for CbcOpening<'_> {
+    fn turn(&mut self, cipher: &mut C) -> anyhow::Result<()> {
+        match self.opener.take(cipher, self.piece, &mut *self.out) {
+            Ok(_) => Ok(()),
+            Err(_) => Err(anyhow!("cbc refuses a piece of a sealed text")),
+        }
+    }
+}
+
+#[derive(Drop)]
+struct Tag<'a> {
+    mac: Mac,
+    piece: &'a [u8],
+}
+
+impl<C: BlockCipher> Turn<C> for Tag<'_> {
+    fn turn(&mut self, cipher: &mut C) -> anyhow::Result<()> {
+        self.mac.absorb(cipher, self.piece);
+        Ok(())
+    }
+}
+
+// ctr, and the MAC of what it makes, under another key. It is no `Turn`, since it promises the same of two ciphers.
+fn measure_tagged_ctr<C: BlockCipher>(
+    rt: &HostRuntime,
+    cipher: &mut C,
+    tag_cipher: &mut C,
+    turns: u64,
+    piece: &mut [u8],
+) -> anyhow::Result<u128>
+    ensures same { Same (C.BlockCipher.meaning cipher.old) (C.BlockCipher.meaning cipher.new) }
+    ensures tag_same { Same (C.BlockCipher.meaning tag_cipher.old) (C.BlockCipher.meaning tag_cipher.new) }
+{
+    let mut stream = CtrStream::new(&START);
+    let mut mac = Mac::new();
+    let start = Instant::now(rt)?;
+    for _ in 0..turns {
+        stream.apply(cipher, piece);
+        mac.absorb(tag_cipher, piece);
+    }
+    let nanoseconds = start.elapsed(rt)?.as_nanos();
+    let _tag = mac.finish(tag_cipher);
+    Ok(speed(turns, nanoseconds))
+}
+
+// ctr, cbc sealed and opened, the MAC, and ctr with the MAC. Both ciphers mean the same afterwards.
 fn run_cipher<C: BlockCipher>(
     rt: &HostRuntime,
     name: &str,
@@ -24,51 +108,40 @@ fn run_cipher<C: BlockCipher>(
     turns: u64,
     piece: &mut [u8],
     out: &mut [u8],
-) -> anyhow::Result<()> {
-    let mut stream = CtrStream::new(&START);
-    let ctr = measure(rt, turns, || {
-        stream.apply(cipher, piece);
-        Ok(())
-    })?;
+) -> anyhow::Result<()>
+    ensures same { Same (C.BlockCipher.meaning cipher.old) (C.BlockCipher.meaning cipher.new) }
+    ensures tag_same { Same (C.BlockCipher.meaning tag_cipher.old) (C.BlockCipher.meaning tag_cipher.new) }
+{
+    let stream = CtrStream::new(&START);
+    let mut turn = Ctr {
+        stream,
+        piece: &mut *piece,
+    };
+    let ctr = measure(rt, cipher, turns, &mut turn)?;
     println!(rt; "{name} ctr {ctr}")?;
-    let mut sealer = CbcSealer::new(&START);
-    let sealing = measure(rt, turns, || match sealer.feed(cipher, piece, out) {
-        Ok(_) => Ok(()),
-        Err(_) => Err(anyhow!("cbc refuses a piece")),
-    })?;
+    let sealer = CbcSealer::new(&START);
+    let mut turn = CbcSealing {
+        sealer,
+        piece: &*piece,
+        out: &mut *out,
+    };
+    let sealing = measure(rt, cipher, turns, &mut turn)?;
     println!(rt; "{name} cbc-seal {sealing}")?;
-    let mut opener = CbcOpener::new(&START, u32::MAX);
-    let opening = measure(rt, turns, || match opener.take(cipher, piece, out) {
-        Ok(_) => Ok(()),
-        Err(_) => Err(anyhow!("cbc refuses a piece of a sealed text")),
-    })?;
+    let opener = CbcOpener::new(&START, u32::MAX);
+    let mut turn = CbcOpening {
+        opener,
+        piece: &*piece,
+        out,
+    };
+    let opening = measure(rt, cipher, turns, &mut turn)?;
     println!(rt; "{name} cbc-open {opening}")?;
-    run_macs(rt, name, cipher, tag_cipher, turns, piece)
-}
-
-fn run_macs<C: BlockCipher>(
-    rt: &HostRuntime,
-    name: &str,
-    cipher: &mut C,
-    tag_cipher: &mut C,
-    turns: u64,
-    piece: &mut [u8],
-) -> anyhow::Result<()> {
-    let mut mac = Mac::new();
-    let alone = measure(rt, turns, || {
-        mac.absorb(cipher, piece);
-        Ok(())
-    })?;
-    let _tag = mac.finish(cipher);
-    println!(rt; "{name} mac {alone}")?;
-    let mut stream = CtrStream::new(&START);
-    let mut mac = Mac::new();
-    let tagged = measure(rt, turns, || {
-        stream.apply(cipher, piece);
-        mac.absorb(tag_cipher, piece);
-        Ok(())
-    })?;
-    let _tag = mac.finish(tag_cipher);
+    let mut turn = Tag {
+        mac: Mac::new(),
+        piece: &*piece,
+    };
+    let mac = measure(rt, cipher, turns, &mut turn)?;
+    println!(rt; "{name} mac {mac}")?;
+    let tagged = measure_tagged_ctr(rt, cipher, tag_cipher, turns, piece)?;
     println!(rt; "{name} ctr+mac {tagged}")?;
     Ok(())
 }
