@@ -110,7 +110,8 @@ impl Body<SealingMode> {
         Body { mode, mac }
     }
 
-    // Takes a piece in, whole or not at all, and writes what becomes sealed; answers how many bytes.
+    // Takes a piece in, whole or not at all, and writes what becomes sealed; answers how many bytes. The two ciphers are lent apart,
+    // since each is lent on alone.
     pub fn feed<C: BlockCipher, T: BlockCipher>(
         &mut self,
         cipher: &mut C,

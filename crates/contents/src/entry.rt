@@ -21,6 +21,7 @@ pub struct Entry {
     pub name: [u8; 32],
 }
 
+// No `From`: neither type is one of this crate.
 fn mode_number(mode: Mode) -> u8
     ensures { result ≡ mode_number mode }
 {

@@ -11,6 +11,7 @@ use sheet_format::{CipherKind, MAX_LENGTH, MAX_NAME, Mode, is_name};
 
 const START_FIELD: usize = 16;
 
+// No `TryFrom`: neither type is one of this crate.
 fn read_mode(number: u8) -> Option<Mode>
     ensures { result ≡ mode_numbered number }
 {

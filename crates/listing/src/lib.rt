@@ -15,7 +15,7 @@ use sheet_lines::line::{BodyLine, LineKind};
 use sheet_lines::reader::Lines;
 use std::alloc::{AllocError, Global};
 
-// What `list` prints of a sheet, and whether the sheet is accepted.
+// What `list` prints of a sheet, and whether the sheet is accepted: a refused sheet has a text too.
 #[derive(Drop)]
 pub struct Listing {
     pub text: Vec<u8>,

@@ -10,7 +10,7 @@ use block::BlockCipher;
 use modes::ctr::CtrStream;
 use std::alloc::Global;
 
-// One piece, and the MAC of what became of it.
+// One piece, and the MAC of what became of it. In cbc a piece can be refused, and what it makes is shorter than the room.
 fn run_piece<C: BlockCipher, T: BlockCipher>(
     heap: Global,
     cipher: &mut C,

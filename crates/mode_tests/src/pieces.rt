@@ -1,4 +1,5 @@
-// A text that is fed in pieces.
+// A text that is fed in pieces. Each run walks over the cutting itself: of a cipher that a closure borrows, a proof knows nothing
+// afterwards.
 ghost use Rattle.std.specs.Prelude.{◌≡◌, min, ◌++◌, length};
 
 // A text, or a sealed text, with its START and the lengths of the pieces in which it is fed.

@@ -7,7 +7,8 @@ use crate::blocks::encipher;
 use crate::bytes::join_front;
 use block::{BlockCipher, block_length};
 
-// The register, to which the bytes of the current block are joined as they come, and how many of them there are.
+// The register, to which the bytes of the current block are joined as they come, and how many of them there are. It is an array of
+// the longest block: nothing allocates, and only the cipher knows n.
 #[derive(Clone, Copy)]
 pub struct Chain {
     pub register: [u8; 16],
@@ -15,7 +16,8 @@ pub struct Chain {
 }
 
 impl Chain {
-    // Joins the front of a piece, up to the end of the block; answers how many bytes.
+    // Joins the front of a piece, up to the end of the block; answers how many bytes. n is handed in, as the cipher says it at run
+    // time: a type of its own for one bound would be no plainer.
     pub fn join(&mut self, n: usize, piece: &[u8]) -> usize
         requires within { self.old.filled ≤ n }
         requires short { n ≤ 16 }

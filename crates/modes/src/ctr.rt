@@ -10,7 +10,7 @@ use crate::bytes::{are_bytes, join_front, write_number};
 use block::{BlockCipher, block_length};
 
 // A ctr stream at some place of its text: START, the number of the next counter block, the current block of the keystream
-// and how much of it is used up.
+// and how much of it is used up; an array of the longest block, since nothing allocates.
 #[derive(Clone, Copy)]
 pub struct CtrStream {
     start: [u8; 16],

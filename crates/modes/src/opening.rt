@@ -24,6 +24,7 @@ fn is_filled(block: &[u8], rest: usize) -> bool
 
 // cbc of a cipher text so far: the block before the current one, the current one as far as it has come, and how many blocks
 // before the last are still to be opened. The last block is held back: its filling is looked at before its text goes out.
+// Blocks are arrays of the longest, since nothing allocates.
 #[derive(Clone, Copy)]
 pub struct CbcOpener {
     previous: [u8; 16],

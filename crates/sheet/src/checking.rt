@@ -9,7 +9,7 @@ use super::progress::Progress;
 use sheet_format::{Checked, MAX_SHEET, SheetFault, WORK_LENGTH};
 use sheet_lines::reader::Lines;
 
-// Clears the front of the work area when it ends.
+// Clears the front of the work area when it ends. The guard of key texts does the same; one for both would be a crate of its own.
 struct ClearFront<'a>(&'a mut [u8]);
 
 impl Drop for ClearFront<'_> {

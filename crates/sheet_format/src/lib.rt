@@ -145,7 +145,8 @@ pub fn is_name(text: &[u8]) -> bool
     !text.is_empty() && text.len() <= MAX_NAME && all_graphic(text)
 }
 
-// A decimal number as it is written: its value, and whether a needless zero stands in front.
+// A decimal number as it is written: its value, and whether a needless zero stands in front. Each number has both, so neither is
+// an error of reading.
 #[derive(Clone, Copy, PartialEq, Eq, Debug)]
 pub struct Decimal {
     pub value: u32,

@@ -5,7 +5,7 @@ ghost use Rattle.sheet_tests.specs.Escapes.{Means, byte_model, escaped_byte, fir
 use anyhow::Context;
 use std::alloc::Global;
 
-// The byte of two hexadecimal digits.
+// The byte of two hexadecimal digits, A to F too, which are no digits of a sheet.
 fn hex_byte(high: u8, low: u8) -> Option<u8>
     ensures { result ≡ pair_value high low }
 {

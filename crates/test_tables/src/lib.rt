@@ -102,7 +102,8 @@ impl Tally {
     }
 }
 
-// Runs each line of the table on standard input, with its number. A comment has no verdict.
+// Runs each line of the table on standard input, with its number. A comment has no verdict. How a line is read, and what is printed
+// of it, is the program's.
 pub fn run_table<F: FnMut(u64, &str) -> anyhow::Result<Option<Verdict>>>(
     rt: &HostRuntime,
     mut run: F,
