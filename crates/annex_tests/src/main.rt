@@ -10,7 +10,7 @@ mod table;
 
 use table::Value;
 use test_digits::bytes_of;
-use test_tables::{NoCase, Tally, Verdict, run_table};
+use test_tables::{Tally, Verdict, judge, run_table};
 
 // Whether our function makes the output of the example; if not, says so.
 fn run_example(rt: &HostRuntime, number: u64, value: Value<'_>) -> anyhow::Result<Verdict>
@@ -28,14 +28,7 @@ fn run_example(rt: &HostRuntime, number: u64, value: Value<'_>) -> anyhow::Resul
 fn run_line(rt: &HostRuntime, number: u64, line: &str) -> anyhow::Result<Option<Verdict>>
     ensures { IfOk result (Judges HoldsIn line.now) }
 {
-    match table::read_entry(line) {
-        Ok(None) => Ok(None),
-        Ok(Some(value)) => Ok(Some(run_example(rt, number, value)?)),
-        Err(NoCase) => {
-            println!(rt; "differs: {number}: no value")?;
-            Ok(Some(Verdict::Differs))
-        }
-    }
+    judge(rt, number, table::read_entry(line), ": no value", |value| run_example(rt, number, value))
 }
 
 fn main(rt: HostRuntime) -> anyhow::Result<()> {

@@ -16,7 +16,7 @@ use magma::Magma;
 use sheet_format::CipherKind;
 use table::Vector;
 use test_digits::key_of;
-use test_tables::{NoCase, Tally, Verdict, run_table};
+use test_tables::{Tally, Verdict, judge, run_table};
 use trial::Trial;
 
 // The verdict of a trial; prints each difference that it shows.
@@ -66,14 +66,7 @@ fn run_vector(rt: &HostRuntime, number: u64, vector: Vector<'_>) -> anyhow::Resu
 fn run_line(rt: &HostRuntime, number: u64, line: &str) -> anyhow::Result<Option<Verdict>>
     ensures { IfOk result (Judges HoldsIn line.now) }
 {
-    match table::read_entry(line) {
-        Ok(None) => Ok(None),
-        Ok(Some(vector)) => Ok(Some(run_vector(rt, number, vector)?)),
-        Err(NoCase) => {
-            println!(rt; "differs: {number}: no vector")?;
-            Ok(Some(Verdict::Differs))
-        }
-    }
+    judge(rt, number, table::read_entry(line), ": no vector", |vector| run_vector(rt, number, vector))
 }
 
 fn main(rt: HostRuntime) -> anyhow::Result<()> {

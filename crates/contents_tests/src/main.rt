@@ -9,7 +9,7 @@ mod answer;
 mod trial;
 
 use test_digits::bytes_of;
-use test_tables::{Case, NoCase, Tally, Verdict, read_case, run_table};
+use test_tables::{Case, Tally, Verdict, judge, read_case, run_table};
 
 // What is found of a case of the table; where it differs, prints its line's number.
 fn run_case(rt: &HostRuntime, number: u64, case: Case<'_>) -> anyhow::Result<Verdict>
@@ -26,14 +26,7 @@ fn run_case(rt: &HostRuntime, number: u64, case: Case<'_>) -> anyhow::Result<Ver
 fn run_line(rt: &HostRuntime, number: u64, line: &str) -> anyhow::Result<Option<Verdict>>
     ensures { IfOk result (Judges HoldsIn line.now) }
 {
-    match read_case(line) {
-        Ok(None) => Ok(None),
-        Ok(Some(case)) => Ok(Some(run_case(rt, number, case)?)),
-        Err(NoCase) => {
-            println!(rt; "differs: {number}: no case")?;
-            Ok(Some(Verdict::Differs))
-        }
-    }
+    judge(rt, number, read_case(line), ": no case", |case| run_case(rt, number, case))
 }
 
 fn main(rt: HostRuntime) -> anyhow::Result<()> {

@@ -27,3 +27,10 @@ abbrev pub Judges : (List ℕ → Type 0) → List ℕ → Option Verdict → Ty
 Judges P line None = passed_over line ≡ true
 Judges P line (Some Agrees) = (passed_over line ≡ false) × P line
 Judges P line (Some Differs) = passed_over line ≡ false
+
+-- what is found of a line that was read, where a run of a case finds R
+abbrev pub Judged : {T : Type 0} → (T → Verdict → Type 0) → Result (Option T) NoCase → Option Verdict → Type 0
+Judged R (Ok None) v = v ≡ None
+Judged R (Ok (Some c)) None = ⊥
+Judged R (Ok (Some c)) (Some v) = R c v
+Judged R (Err e) v = v ≡ Some Differs

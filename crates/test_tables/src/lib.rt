@@ -1,8 +1,8 @@
 // Tables of cases: what a line is, and a run over all of them.
 #![tactic(auto)]
 
-ghost use Rattle.std.specs.Prelude.{◌≡◌, ◌≢◌, ◌↔◌, ℕ, ◌+◌, ◌-◌, ◌^◌, ◌≤◌, min, IfOk, MatchOption, if◌then◌else◌};
-ghost use Rattle.test_tables.specs.Lines.{Reads, cipher_name, passed_over};
+ghost use Rattle.std.specs.Prelude.{◌≡◌, ◌≢◌, ◌↔◌, ℕ, ◌+◌, ◌-◌, ◌^◌, ◌≤◌, min, IfOk, MatchOption, Ok, if◌then◌else◌};
+ghost use Rattle.test_tables.specs.Lines.{Judged, Reads, cipher_name, passed_over};
 ghost use Rattle.sheet_format.specs.declared.CipherKind.{CipherKind};
 
 use sheet_format::CipherKind;
@@ -98,6 +98,27 @@ impl Tally {
         self.cases = self.cases.saturating_add(1);
         if verdict == Verdict::Differs {
             self.differ = self.differ.saturating_add(1);
+        }
+    }
+}
+
+// What is found of a line that was read: a case is run, and a line that is none differs, which is printed.
+pub fn judge<T, F: FnOnce(T) -> anyhow::Result<Verdict>>(
+    rt: &HostRuntime,
+    number: u64,
+    entry: Result<Option<T>, NoCase>,
+    no_case: &str,
+    run: F,
+) -> anyhow::Result<Option<Verdict>>
+    requires { F.IsAlwaysCallable run }
+    ensures { IfOk result (Judged (λ c v. F.post run c (Ok v)) entry) }
+{
+    match entry {
+        Ok(None) => Ok(None),
+        Ok(Some(case)) => Ok(Some(run(case)?)),
+        Err(NoCase) => {
+            println!(rt; "differs: {number}{no_case}")?;
+            Ok(Some(Verdict::Differs))
         }
     }
 }
