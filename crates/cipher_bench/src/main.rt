@@ -14,6 +14,7 @@ use kuznyechik_tables::KuznyechikTables;
 use magma::Magma;
 use std::env;
 
+// Which of the two functions of a cipher is measured: no closure, since of a cipher that one borrows a proof knows nothing afterwards.
 #[derive(Clone, Copy)]
 enum Way {
     Encipher,

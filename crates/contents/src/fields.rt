@@ -22,6 +22,7 @@ fn read_mode(number: u8) -> Option<Mode>
     }
 }
 
+// The crate modes has this line of std too, for its own fillings: a crate for it would be no plainer.
 fn all_zero(bytes: &[u8]) -> bool
     ensures { result ≡ all_zero bytes.now }
 {

@@ -101,6 +101,7 @@ fn read_entries(cipher: CipherKind, count: usize, bytes: &[u8]) -> Result<Entrie
     let mut blocks = 0;
     let (chunks, _) = bytes.as_chunks::<ENTRY>();
     for (i, chunk) in chunks.iter().enumerate() {
+        // no `ok_or(..)?`: the proof with it did not close
         let Some((entry, total)) = read_next(cipher, entries.as_slice(), blocks, chunk) else {
             return Err(ContentsFault::Entry { number: i + 1 });
         };

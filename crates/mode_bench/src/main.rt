@@ -40,10 +40,8 @@ struct CbcSealing<'a> {
 
 impl<C: BlockCipher> Turn<C> for CbcSealing<'_> {
     fn turn(&mut self, cipher: &mut C) -> anyhow::Result<()> {
-        match self.sealer.feed(cipher, self.piece, &mut *self.out) {
-            Ok(_) => Ok(()),
-            Err(_) => Err(anyhow!("cbc refuses a piece")),
-        }
+        self.sealer.feed(cipher, self.piece, &mut *self.out).map_err(|_| anyhow!("cbc refuses a piece"))?;
+        Ok(())
     }
 }
 
@@ -56,10 +54,10 @@ struct CbcOpening<'a> {
 
 impl<C: BlockCipher> Turn<C> for CbcOpening<'_> {
     fn turn(&mut self, cipher: &mut C) -> anyhow::Result<()> {
-        match self.opener.take(cipher, self.piece, &mut *self.out) {
-            Ok(_) => Ok(()),
-            Err(_) => Err(anyhow!("cbc refuses a piece of a sealed text")),
-        }
+        self.opener
+            .take(cipher, self.piece, &mut *self.out)
+            .map_err(|_| anyhow!("cbc refuses a piece of a sealed text"))?;
+        Ok(())
     }
 }
 

@@ -26,6 +26,7 @@ fn seal_piece<C: BlockCipher, T: BlockCipher>(
     ensures tag_same { Same (T.BlockCipher.meaning tag_cipher.old) (T.BlockCipher.meaning tag_cipher.new) }
 {
     let mut blocks = vec![in heap; 0u8; piece.len().saturating_add(16)]?;
+    // no `map_err(..)?`, here and below: the proof with it did not close
     let Ok(count) = sealer.feed(cipher, piece, blocks.as_mut_slice()) else {
         return Err(anyhow!("cbc refuses a piece"));
     };

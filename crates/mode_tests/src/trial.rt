@@ -78,9 +78,7 @@ fn extent_of(n: usize, length: usize) -> anyhow::Result<Extent>
     if n == 0 {
         return Err(anyhow!("a cipher with no block"));
     }
-    let Ok(before) = u32::try_from(length / n) else {
-        return Err(anyhow!("a text that is too long"));
-    };
+    let before = u32::try_from(length / n).map_err(|_| anyhow!("a text that is too long"))?;
     Ok(Extent {
         before,
         rest: length % n,

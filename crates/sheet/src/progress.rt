@@ -41,9 +41,7 @@ impl<'a> Progress<'a> {
         ensures limit { IfOk result (λ total. total ≤ 1000000) }
         ensures cipher { OnOk result (is_some self.now.cipher ≡ true) }
     {
-        let Some(cipher) = self.cipher else {
-            return Err(SheetFault::MisplacedCipher { line });
-        };
+        let cipher = self.cipher.ok_or(SheetFault::MisplacedCipher { line })?;
         if self.kept.count >= MAX_BODIES {
             return Err(SheetFault::BodyCount { line });
         }
@@ -105,9 +103,7 @@ impl<'a> Progress<'a> {
         requires { last ≤ 4096 }
         ensures { (earlier : List FormatLine) → Stands self.now earlier → result ≡ map_ok summary (order_at_end (last + 1) (ciphers_in earlier) (bodies_in earlier)) }
     {
-        let Some(cipher) = self.cipher else {
-            return Err(SheetFault::MisplacedCipher { line: last + 1 });
-        };
+        let cipher = self.cipher.ok_or(SheetFault::MisplacedCipher { line: last + 1 })?;
         if self.kept.count == 0 {
             return Err(SheetFault::BodyCount { line: last + 1 });
         }
