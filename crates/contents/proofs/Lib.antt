@@ -1,6 +1,5 @@
 -- Lemmas for the functions of this crate.
 mod EntryFields
-mod Searches
 mod Held
 mod Next
 mod Whole

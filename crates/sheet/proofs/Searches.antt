@@ -10,7 +10,7 @@ use Rattle.sheet.specs.Slots.{name_kept, start_kept, in_ctr, ctr_start}
 use Rattle.sheet.specs.Kept.{slots_in, Keeps}
 use Rattle.sheet.specs.declared.kept.Kept.{Kept}
 
-any-map : {X Y : Type 0} (p : Y → Bool) (h : X → Y) (xs : List X) → list_any p (map h xs) ≡ list_any (λ x. p (h x)) xs
+pub any-map : {X Y : Type 0} (p : Y → Bool) (h : X → Y) (xs : List X) → list_any p (map h xs) ≡ list_any (λ x. p (h x)) xs
 any-map p h [] = refl
 any-map p h (x ∷ xs) = ap (λ (t : Bool). p (h x) || t) (any-map p h xs)
 

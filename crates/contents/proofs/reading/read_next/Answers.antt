@@ -1,4 +1,4 @@
-use Rattle.std.proofs.Common.{ℕ, ◌<◌, ◌≤◌, List, [], ◌∷◌, ◌++◌, ap, ◌∙◌, arith}
+use Rattle.std.proofs.Common.{ℕ, ◌<◌, ◌≤◌, List, [], ◌∷◌, ◌++◌, ap, ◌∙◌, arith, sym}
 use Rattle.std.specs.List.{list_any}
 use Rattle.std.specs.Str.{bytes_eq}
 use Rattle.sheet_format.specs.Orders.{BodyOrder, total_blocks}
@@ -7,7 +7,7 @@ use Rattle.contents_laws.proofs.Sound.{blocks-push}
 use Rattle.contents.specs.Entries.{body_in, bodies_in, name_of}
 use Rattle.contents.specs.declared.entry.Entry.{Entry}
 use Rattle.contents.proofs.Next.{next-named, next-many, next-good}
-use Rattle.contents.proofs.Searches.{any-map}
+use Rattle.sheet.proofs.Searches.{any-map}
 use Rattle.contents.proofs.reading.read_next.Goals as goal
 
 pub returns-then-name_taken-clause-value : goal.returns-then-name_taken-clause-value
@@ -16,7 +16,7 @@ returns-then-name_taken-clause-value c =
     let entry = c.in_ok-entry.entry in
     next-named n (bodies_in n c.args.earlier.now) c.args.bytes.now (body_in n entry) c.in_ok-entry.ensures.value
     (c.if-name_taken.ensures ∙ ap (λ (xs : List ℕ). list_any (λ (e : Entry). bytes_eq (name_of e) xs) c.args.earlier.now) c.name.ensures
-    ∙ any-map (body_in n) (λ (b : BodyOrder). bytes_eq b.name (name_of entry)) c.args.earlier.now)
+    ∙ sym (any-map (λ (b : BodyOrder). bytes_eq b.name (name_of entry)) (body_in n) c.args.earlier.now))
 
 pub returns-then-more-blocks-clause-value : goal.returns-then-more-blocks-clause-value
 returns-then-more-blocks-clause-value c =
@@ -36,7 +36,7 @@ returns-clause-value c =
     let few : total_blocks n (earlier ++ body_in n entry ∷ []) ≤ 1000000 = omega (arith, c.requires.blocks, c.blocks-more.ensures) in
     next-good n earlier c.args.bytes.now (body_in n entry) c.in_ok-entry.ensures.value
     (c.if-name_taken.ensures ∙ ap (λ (xs : List ℕ). list_any (λ (e : Entry). bytes_eq (name_of e) xs) c.args.earlier.now) c.name.ensures
-    ∙ any-map (body_in n) (λ (b : BodyOrder). bytes_eq b.name (name_of entry)) c.args.earlier.now) c.if-shares_start.ensures few
+    ∙ sym (any-map (λ (b : BodyOrder). bytes_eq b.name (name_of entry)) (body_in n) c.args.earlier.now)) c.if-shares_start.ensures few
 
 pub returns-clause-total : goal.returns-clause-total
 returns-clause-total c =
