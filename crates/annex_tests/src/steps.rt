@@ -67,7 +67,7 @@ fn round_agrees<F: Fn(u32, u32, u32) -> (u32, u32)>(
 }
 
 // Whether our function for the step makes this output of this input; None where one of them has too few bytes.
-pub fn agrees(step: Step, input: &[u8], output: &[u8]) -> Option<bool>
+fn makes(step: Step, input: &[u8], output: &[u8]) -> Option<bool>
     ensures { result ≡ Some true → Makes step input.now output.now }
 {
     match step {
@@ -99,4 +99,10 @@ pub fn agrees(step: Step, input: &[u8], output: &[u8]) -> Option<bool>
         Step::InnerRound => round_agrees(round, input, output),
         Step::LastRound => round_agrees(last_round, input, output),
     }
+}
+
+pub fn agrees(step: Step, input: &[u8], output: &[u8]) -> bool
+    ensures { result ≡ true → Makes step input.now output.now }
+{
+    makes(step, input, output) == Some(true)
 }
