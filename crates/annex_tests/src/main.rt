@@ -28,7 +28,13 @@ fn run_example(rt: &HostRuntime, number: u64, value: Value<'_>) -> anyhow::Resul
 fn run_line(rt: &HostRuntime, number: u64, line: &str) -> anyhow::Result<Option<Verdict>>
     ensures { IfOk result (Judges HoldsIn line.now) }
 {
-    judge(rt, number, table::read_entry(line), ": no value", |value| run_example(rt, number, value))
+    judge(
+        rt,
+        number,
+        table::read_entry(line),
+        ": no value",
+        |value| run_example(rt, number, value),
+    )
 }
 
 fn main(rt: HostRuntime) -> anyhow::Result<()> {

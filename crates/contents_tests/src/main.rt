@@ -26,7 +26,13 @@ fn run_case(rt: &HostRuntime, number: u64, case: Case<'_>) -> anyhow::Result<Ver
 fn run_line(rt: &HostRuntime, number: u64, line: &str) -> anyhow::Result<Option<Verdict>>
     ensures { IfOk result (Judges HoldsIn line.now) }
 {
-    judge(rt, number, read_case(line), ": no case", |case| run_case(rt, number, case))
+    judge(
+        rt,
+        number,
+        read_case(line),
+        ": no case",
+        |case| run_case(rt, number, case),
+    )
 }
 
 fn main(rt: HostRuntime) -> anyhow::Result<()> {

@@ -40,7 +40,9 @@ struct CbcSealing<'a> {
 
 impl<C: BlockCipher> Turn<C> for CbcSealing<'_> {
     fn turn(&mut self, cipher: &mut C) -> anyhow::Result<()> {
-        self.sealer.feed(cipher, self.piece, &mut *self.out).map_err(|_| anyhow!("cbc refuses a piece"))?;
+        self.sealer
+            .feed(cipher, self.piece, &mut *self.out)
+            .map_err(|_| anyhow!("cbc refuses a piece"))?;
         Ok(())
     }
 }

@@ -149,7 +149,13 @@ fn run_vector(rt: &HostRuntime, number: u64, vector: Vector<'_>) -> anyhow::Resu
 fn run_line(rt: &HostRuntime, number: u64, line: &str) -> anyhow::Result<Option<Verdict>>
     ensures { IfOk result (Judges HoldsIn line.now) }
 {
-    judge(rt, number, table::read_entry(line), ": no vector", |vector| run_vector(rt, number, vector))
+    judge(
+        rt,
+        number,
+        table::read_entry(line),
+        ": no vector",
+        |vector| run_vector(rt, number, vector),
+    )
 }
 
 fn main(rt: HostRuntime) -> anyhow::Result<()> {

@@ -103,7 +103,9 @@ impl<'a> Progress<'a> {
         requires { last ≤ 4096 }
         ensures { (earlier : List FormatLine) → Stands self.now earlier → result ≡ map_ok summary (order_at_end (last + 1) (ciphers_in earlier) (bodies_in earlier)) }
     {
-        let cipher = self.cipher.ok_or(SheetFault::MisplacedCipher { line: last + 1 })?;
+        let cipher = self
+            .cipher
+            .ok_or(SheetFault::MisplacedCipher { line: last + 1 })?;
         if self.kept.count == 0 {
             return Err(SheetFault::BodyCount { line: last + 1 });
         }
