@@ -1,5 +1,5 @@
 // What `check` keeps of the bodies before a line: 56 bytes a body in the work area, with the name, and START if it is a ctr body.
-ghost use Rattle.std.specs.Prelude.{◌≡◌, ℕ, ◌+◌, ◌≤◌, ◌<◌, List, [], ◌∷◌, ◌++◌, length};
+ghost use Rattle.std.specs.Prelude.{◌≡◌, ℕ, ◌+◌, ◌≤◌, ◌<◌, List, [], ◌∷◌, ◌++◌, length, drop};
 ghost use Rattle.std.specs.Str.{bytes_eq};
 ghost use Rattle.std.specs.List.{list_any};
 ghost use Rattle.sheet.specs.Slots.{ctr_start, name_kept, start_kept};
@@ -107,7 +107,8 @@ impl<'a> Kept<'a> {
         requires room { self.old.count < 32 }
         requires start { length (ctr_start (body_model body)) ≤ 16 }
         requires name { length body.name.now ≤ 32 }
-        ensures { (bodies : List Body) → Keeps self.old bodies → Keeps self.new (bodies ++ body_model body.entry ∷ []) }
+        ensures kept { (bodies : List Body) → Keeps self.old bodies → Keeps self.new (bodies ++ body_model body.entry ∷ []) }
+        ensures rest { drop (self.old.count + 1) self.new.slots.now ≡ drop (self.old.count + 1) self.old.slots.now }
     {
         let slots = &mut *self.slots;
         fill_slot(&mut slots[self.count], ctr_start(body), body.name);

@@ -33,5 +33,5 @@ returns c =
           let q = admitted-ok (line_fault c.args.line earlier (Some (body b))) (blocks_for (ciphers_in earlier) (bodies_in earlier ++ b ∷ []))
           c.in_ok-blocks.blocks (facts.value earlier st) in
           stands-body c.args.self.now earlier st b c.keep.new.self c.in_ok-blocks.blocks
-          facts.cipher facts.limit q.1 (c.keep.ensures (bodies_in earlier) st.kept);
+          facts.cipher facts.limit q.1 (c.keep.ensures.kept (bodies_in earlier) st.kept);
     }
