@@ -90,6 +90,16 @@ pub struct Tally {
 }
 
 impl Tally {
+    // The tally before the first case.
+    fn new() -> Tally
+        ensures { (result.cases ≡ 0) × (result.differ ≡ 0) }
+    {
+        Tally {
+            cases: 0,
+            differ: 0,
+        }
+    }
+
     fn count(&mut self, verdict: Verdict)
         ensures cases { self.new.cases ≡ min (self.old.cases + 1) (2 ^ 64 - 1) }
         ensures agrees { verdict ≡ Verdict.Agrees → self.new.differ ≡ self.old.differ }
@@ -132,10 +142,7 @@ pub fn run_table<F: FnMut(u64, &str) -> anyhow::Result<Option<Verdict>>>(
     requires { F.IsAlwaysCallable run }
     ensures { IfOk result (λ t. t.differ ≤ t.cases) }
 {
-    let mut tally = Tally {
-        cases: 0,
-        differ: 0,
-    };
+    let mut tally = Tally::new();
     let mut number: u64 = 0;
     for line in BufReader::new(rt.alloc(), rt.stdin())?.lines(rt.alloc()) {
         let line = line?;
