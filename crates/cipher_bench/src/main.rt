@@ -59,7 +59,11 @@ struct Blocks<'a, const N: usize> {
 }
 
 impl<C: BlockCipher, const N: usize> Turn<C> for Blocks<'_, N> {
-    fn turn(&mut self, cipher: &mut C) -> anyhow::Result<()> {
+    fn turn(&mut self, cipher: &mut C) -> anyhow::Result<()>
+        ensures refused { IsErr result → ((C.BlockCipher.meaning cipher.old).size ≡ N → ⊥) }
+        ensures run { IsOk result → 0 < length self.old.blocks.now → (C.BlockCipher.meaning cipher.old).size ≡ N }
+        ensures same { Same (C.BlockCipher.meaning cipher.old) (C.BlockCipher.meaning cipher.new) }
+    {
         replace_all(cipher, self.way, &mut *self.blocks).map_err(|_| anyhow!("a block was refused"))
     }
 }

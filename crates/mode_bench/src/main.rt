@@ -140,6 +140,7 @@ fn run_cipher<C: BlockCipher>(
         piece: &*piece,
     };
     let mac = measure(rt, cipher, turns, &mut turn)?;
+    let _tag = turn.mac.finish(cipher);
     println!(rt; "{name} mac {mac}")?;
     let tagged = measure_tagged_ctr(rt, cipher, tag_cipher, turns, piece)?;
     println!(rt; "{name} ctr+mac {tagged}")?;
