@@ -3,9 +3,8 @@
 #![tactic(auto)]
 
 ghost use Rattle.std.specs.Prelude.{◌≡◌, ◌↔◌, IfOk};
-ghost use Rattle.block.specs.Blocks.{Meaning, Same};
 ghost use Rattle.test_tables.specs.Lines.{Judges};
-ghost use Rattle.mode_tests.specs.Agreement.{AgreesMac, AgreesSealed, AllMac, AllSealed, Holds, HoldsIn, HoldsMac, HoldsSealed};
+ghost use Rattle.mode_tests.specs.Agreement.{AllMac, AllSealed, Holds, HoldsIn, HoldsMac, HoldsSealed};
 
 mod cbc_runs;
 mod ctr_runs;
@@ -16,7 +15,6 @@ mod table;
 mod tagged;
 mod trial;
 
-use block::BlockCipher;
 use kuznyechik::Kuznyechik;
 use kuznyechik_tables::KuznyechikTables;
 use magma::Magma;
@@ -24,7 +22,7 @@ use sheet_format::CipherKind;
 use table::{MacVector, SealedVector, Vector};
 use test_digits::key_of;
 use test_tables::{Tally, Verdict, judge, run_table};
-use trial::{MacTrial, SealedTrial};
+use trial::{MacTrial, SealedTrial, try_mac, try_sealed};
 
 // The verdict of a trial; prints each difference that it shows.
 fn report_sealed(
@@ -60,38 +58,8 @@ fn report_mac(rt: &HostRuntime, number: u64, name: &str, trial: MacTrial) -> any
     Ok(Verdict::of(trial.first && trial.other))
 }
 
-// What is found of a cipher and one for the tag, and so of each that mean the same.
-fn run_sealed<C: BlockCipher, T: BlockCipher>(
-    rt: &HostRuntime,
-    number: u64,
-    name: &str,
-    cipher: &mut C,
-    tag_cipher: &mut T,
-    vector: SealedVector<'_>,
-) -> anyhow::Result<Verdict>
-    ensures { IfOk result (λ v. (v ≡ Verdict.Agrees → (m o : Meaning) → Same (C.BlockCipher.meaning cipher.old) m → Same (T.BlockCipher.meaning tag_cipher.old) o → AgreesSealed vector.entry.mode m o vector.entry)) }
-{
-    let heap = rt.alloc();
-    let input = inputs::sealed_input(heap, vector)?;
-    let trial = trial::try_sealed(heap, vector.mode, cipher, tag_cipher, &input)?;
-    report_sealed(rt, number, name, trial)
-}
-
-fn run_mac<C: BlockCipher>(
-    rt: &HostRuntime,
-    number: u64,
-    name: &str,
-    cipher: &mut C,
-    vector: MacVector<'_>,
-) -> anyhow::Result<Verdict>
-    ensures { IfOk result (λ v. (v ≡ Verdict.Agrees → (m : Meaning) → Same (C.BlockCipher.meaning cipher.old) m → AgreesMac m vector.entry)) }
-{
-    let input = inputs::mac_input(rt.alloc(), vector)?;
-    let trial = trial::try_mac(cipher, &input);
-    report_mac(rt, number, name, trial)
-}
-
-// Kuznyechik, plain and by tables, with the tag by Magma; or Magma, with the tag by Kuznyechik by tables.
+// Kuznyechik, plain and by tables, with the tag by Magma; or Magma, with the tag by Kuznyechik by tables. All ciphers are tried before
+// a difference is printed.
 fn run_sealed_vector(
     rt: &HostRuntime,
     number: u64,
@@ -99,23 +67,27 @@ fn run_sealed_vector(
 ) -> anyhow::Result<Verdict>
     ensures { IfOk result (λ v. (v ≡ Verdict.Agrees → HoldsSealed vector.entry)) }
 {
-    let key = key_of(rt.alloc(), vector.key)?;
-    let tag_key = key_of(rt.alloc(), vector.tag_key)?;
+    let heap = rt.alloc();
+    let input = inputs::sealed_input(heap, vector)?;
+    let key = key_of(heap, vector.key)?;
+    let tag_key = key_of(heap, vector.tag_key)?;
     match vector.cipher {
         CipherKind::Kuznyechik => {
-            let mut plain = Kuznyechik::prepare(&key);
-            let mut tag = Magma::prepare(&tag_key);
-            let plain = run_sealed(rt, number, "Kuznyechik", &mut plain, &mut tag, vector)?;
             let mut tables = KuznyechikTables::prepare(&key);
             let mut tag = Magma::prepare(&tag_key);
-            let name = "Kuznyechik by tables";
-            let tables = run_sealed(rt, number, name, &mut tables, &mut tag, vector)?;
+            let tables = try_sealed(heap, vector.mode, &mut tables, &mut tag, &input)?;
+            let mut plain = Kuznyechik::prepare(&key);
+            let mut tag = Magma::prepare(&tag_key);
+            let plain = try_sealed(heap, vector.mode, &mut plain, &mut tag, &input)?;
+            let plain = report_sealed(rt, number, "Kuznyechik", plain)?;
+            let tables = report_sealed(rt, number, "Kuznyechik by tables", tables)?;
             Ok(plain.and(tables))
         }
         CipherKind::Magma => {
             let mut cipher = Magma::prepare(&key);
             let mut tag = KuznyechikTables::prepare(&tag_key);
-            run_sealed(rt, number, "Magma", &mut cipher, &mut tag, vector)
+            let trial = try_sealed(heap, vector.mode, &mut cipher, &mut tag, &input)?;
+            report_sealed(rt, number, "Magma", trial)
         }
     }
 }
@@ -124,16 +96,20 @@ fn run_sealed_vector(
 fn run_mac_vector(rt: &HostRuntime, number: u64, vector: MacVector<'_>) -> anyhow::Result<Verdict>
     ensures { IfOk result (λ v. (v ≡ Verdict.Agrees → HoldsMac vector.entry)) }
 {
+    let input = inputs::mac_input(rt.alloc(), vector)?;
     let key = key_of(rt.alloc(), vector.key)?;
     match vector.cipher {
         CipherKind::Kuznyechik => {
-            let mut plain = Kuznyechik::prepare(&key);
-            let mut tables = KuznyechikTables::prepare(&key);
-            let plain = run_mac(rt, number, "Kuznyechik", &mut plain, vector)?;
-            let tables = run_mac(rt, number, "Kuznyechik by tables", &mut tables, vector)?;
+            let plain = try_mac(&mut Kuznyechik::prepare(&key), &input);
+            let tables = try_mac(&mut KuznyechikTables::prepare(&key), &input);
+            let plain = report_mac(rt, number, "Kuznyechik", plain)?;
+            let tables = report_mac(rt, number, "Kuznyechik by tables", tables)?;
             Ok(plain.and(tables))
         }
-        CipherKind::Magma => run_mac(rt, number, "Magma", &mut Magma::prepare(&key), vector),
+        CipherKind::Magma => {
+            let trial = try_mac(&mut Magma::prepare(&key), &input);
+            report_mac(rt, number, "Magma", trial)
+        }
     }
 }
 
