@@ -29,13 +29,12 @@ pub fn both_ways<C: BlockCipher>(
     ensures { IfOk result (λ t. Confirms t (C.BlockCipher.meaning cipher.old) vector.entry) }
 {
     let plain = bytes_of(heap, vector.plain)?;
-    let ciphertext = bytes_of(heap, vector.ciphertext)?;
+    let mut ciphertext = bytes_of(heap, vector.ciphertext)?;
     let mut forward = Vec::from_slice(heap, plain.as_slice())?;
     let block = forward.as_mut_slice();
     let answer = cipher.encipher(block);
     let enciphers = is_made(answer, block, ciphertext.as_slice());
-    let mut back = Vec::from_slice(heap, ciphertext.as_slice())?;
-    let block = back.as_mut_slice();
+    let block = ciphertext.as_mut_slice();
     let answer = cipher.decipher(block);
     let deciphers = is_made(answer, block, plain.as_slice());
     Ok(Trial {

@@ -4,7 +4,7 @@
 ghost use Rattle.std.specs.Prelude.{◌≡◌, IfOk};
 ghost use Rattle.hex_digits.specs.Hex.{hex_bytes};
 
-use anyhow::{Context, anyhow};
+use anyhow::anyhow;
 use hex_digits::hex_byte;
 use std::alloc::Global;
 
@@ -15,7 +15,11 @@ pub fn bytes_of(heap: Global, digits: &str) -> anyhow::Result<Vec<u8>>
     let mut bytes = Vec::new(heap);
     let mut rest = digits.as_bytes();
     while let [high, low, tail @ ..] = rest {
-        bytes.push(hex_byte(*high, *low).context("a character that is no digit")?)?;
+        // no `context(..)?`: it hands a whole error about for each byte
+        let Some(byte) = hex_byte(*high, *low) else {
+            return Err(anyhow!("a character that is no digit"));
+        };
+        bytes.push(byte)?;
         rest = tail;
     }
     if !rest.is_empty() {
