@@ -7,7 +7,7 @@ ghost use Rattle.block.specs.Keys.{code_of, key_of};
 ghost use Rattle.block.specs.declared.BlockFault.TheVariants.{KeyText};
 
 use fault::FaultCode;
-use hex_digits::{NotHex, read_hex};
+use hex_digits::{NotHex, hex_byte};
 
 // Why a block or a key text is refused.
 #[derive(Clone, Copy, PartialEq, Eq, Debug)]
@@ -98,8 +98,18 @@ impl From<NotHex> for BlockFault {
 fn key_bytes(text: &[u8]) -> Result<[u8; 32], BlockFault>
     ensures { result ≡ key_of text.now }
 {
+    if text.len() != 64 {
+        return Err(BlockFault::KeyText);
+    }
+    // in one pass, where `read_hex` looks at all digits before it writes: the array is this call's own
     let mut key = [0u8; 32];
-    read_hex(text, &mut key)?;
+    let mut rest = text;
+    for b in key.iter_mut() {
+        if let [high, low, tail @ ..] = rest {
+            *b = hex_byte(*high, *low).ok_or(NotHex)?;
+            rest = tail;
+        }
+    }
     Ok(key)
 }
 
