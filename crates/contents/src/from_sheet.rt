@@ -1,5 +1,5 @@
 // Contents, made from a sheet that passes.
-ghost use Rattle.std.specs.Prelude.{◌≡◌, ℕ, ◌/◌, ◌≤◌, true, map, length, take, IfOk};
+ghost use Rattle.std.specs.Prelude.{◌≡◌, ℕ, ◌/◌, ◌≤◌, true, [], map, length, take, IfOk};
 ghost use Rattle.hex_digits.specs.Hex.{hex_bytes, is_hex};
 ghost use Rattle.sheet.specs.Checking.{after_check};
 ghost use Rattle.sheet_format.specs.Lines.{lines_of};
@@ -60,13 +60,13 @@ fn entry_of(cipher: CipherKind, body: BodyLine<'_>) -> Entry
     }
 }
 
-// The entries of the bodies that a sheet names.
-fn entries_of(cipher: CipherKind, sheet: &[u8]) -> Entries
-    requires { FitLines (block_length cipher) (bodies_named (lines_of sheet.now)) }
-    ensures value { bodies_in (block_length cipher) (entries_in result) ≡ map ordered (bodies_named (lines_of sheet.now)) }
-    ensures held { are_held (block_length cipher) (entries_in result) ≡ true }
+// Puts the entries of the bodies that a sheet names into a place that is lent.
+fn put_entries(cipher: CipherKind, sheet: &[u8], entries: &mut Entries)
+    requires none { entries_in entries.old ≡ [] }
+    requires fit { FitLines (block_length cipher) (bodies_named (lines_of sheet.now)) }
+    ensures value { bodies_in (block_length cipher) (entries_in entries.new) ≡ map ordered (bodies_named (lines_of sheet.now)) }
+    ensures held { are_held (block_length cipher) (entries_in entries.new) ≡ true }
 {
-    let mut entries = Entries::new();
     for item in Lines::new(sheet) {
         if let Ok(line) = item
             && let LineKind::Body(body) = line.kind
@@ -74,7 +74,6 @@ fn entries_of(cipher: CipherKind, sheet: &[u8]) -> Entries
             entries.push(entry_of(cipher, body));
         }
     }
-    entries
 }
 
 impl Contents {
@@ -91,7 +90,8 @@ impl Contents {
     {
         let checked = check(sheet, work)?;
         let cipher = CipherKind::try_from(checked.block_length).unwrap();
-        let entries = entries_of(cipher, sheet);
+        let mut entries = Entries::new();
+        put_entries(cipher, sheet, &mut entries);
         Ok(Contents {
             cipher,
             tag_block,

@@ -1,5 +1,5 @@
 // Contents, read from their bytes.
-ghost use Rattle.std.specs.Prelude.{◌≡◌, ℕ, ◌+◌, ◌*◌, ◌≤◌, true, ◌&&◌, List, [], ◌∷◌, ◌++◌, length, length as list_length, take, IfSome, IfOk};
+ghost use Rattle.std.specs.Prelude.{◌≡◌, ℕ, ◌+◌, ◌*◌, ◌≤◌, true, ◌&&◌, List, [], ◌∷◌, ◌++◌, length, length as list_length, take, IfSome, IfOk, OnOk};
 ghost use Rattle.std.specs.Option.{option_map};
 ghost use Rattle.std.specs.List.{list_any};
 ghost use Rattle.std.specs.Str.{bytes_eq};
@@ -90,14 +90,20 @@ fn is_frame(edition: u8, count: usize, length: usize) -> bool
     edition == 1 && 1 <= count && count <= MAX_BODIES && length == ENTRY * count
 }
 
-// The entries, one after the other; of a fault the number of the first that may not stand there.
-fn read_entries(cipher: CipherKind, count: usize, bytes: &[u8]) -> Result<Entries, ContentsFault>
+// The entries, one after the other; of a fault the number of the first that may not stand there. They go into a place that is lent:
+// each time so large a value is handed on, it is copied.
+fn read_entries(
+    cipher: CipherKind,
+    count: usize,
+    bytes: &[u8],
+    entries: &mut Entries,
+) -> Result<(), ContentsFault>
+    requires none { entries_in entries.old ≡ [] }
     requires count { count ≤ 32 }
     requires long { length bytes.now ≡ 56 * count }
-    ensures value { map_ok (λ e. bodies_in (block_length cipher) (entries_in e)) result ≡ bodies_from (block_length cipher) [] count bytes.now }
-    ensures held { IfOk result (λ e. are_held (block_length cipher) (entries_in e) ≡ true) }
+    ensures value { map_ok (λ _. bodies_in (block_length cipher) (entries_in entries.new)) result ≡ bodies_from (block_length cipher) [] count bytes.now }
+    ensures held { OnOk result (are_held (block_length cipher) (entries_in entries.new) ≡ true) }
 {
-    let mut entries = Entries::new();
     let mut blocks = 0;
     let (chunks, _) = bytes.as_chunks::<ENTRY>();
     for (i, chunk) in chunks.iter().enumerate() {
@@ -108,7 +114,7 @@ fn read_entries(cipher: CipherKind, count: usize, bytes: &[u8]) -> Result<Entrie
         entries.push(entry);
         blocks = total;
     }
-    Ok(entries)
+    Ok(())
 }
 
 // What contents with this header say.
@@ -127,11 +133,12 @@ fn read_framed(
     if !is_frame(edition, count, entries.len()) {
         return Err(ContentsFault::Header);
     }
-    let entries = read_entries(cipher, count, entries)?;
+    let mut rows = Entries::new();
+    read_entries(cipher, count, entries, &mut rows)?;
     Ok(Contents {
         cipher,
         tag_block,
-        entries,
+        entries: rows,
     })
 }
 

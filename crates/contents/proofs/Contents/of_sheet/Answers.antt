@@ -9,8 +9,8 @@ use Rattle.contents.specs.Entries.{entries_in}
 use Rattle.contents.proofs.Lines.{checked-cipher, checked-passed, said-answer, said-contents, said-passes}
 use Rattle.contents.proofs.Contents.of_sheet.Goals as goal
 
-pub entries_of-entries-requires : goal.entries_of-entries-requires
-entries_of-entries-requires c =
+pub put_entries-requires-clause-fit : goal.put_entries-requires-clause-fit
+put_entries-requires-clause-fit c =
     let e = c.in_ok-checked.ensures.answer in
     let work = length c.args.work.now in
     let sheet = c.args.sheet.now in
@@ -27,7 +27,7 @@ invariant_of-result c =
     let m = c.args.tag_block in
     let is = kind-known checked.block_length c.unwrap-cipher.result _ c.try_from.result c.try_from.ensures c.unwrap-cipher.ensures (checked-cipher work sheet checked m e) in
     record {
-      sound = said-contents work sheet checked m e c.unwrap-cipher.result (entries_in c.entries_of-entries.result) is c.entries_of-entries.ensures.value c.entries_of-entries.ensures.held;
+      sound = said-contents work sheet checked m e c.unwrap-cipher.result (entries_in c.put_entries.new.entries) is c.put_entries.ensures.value c.put_entries.ensures.held;
     }
 
 pub returns : goal.returns
@@ -39,7 +39,7 @@ returns c =
     let m = c.args.tag_block in
     let is = kind-known checked.block_length c.unwrap-cipher.result _ c.try_from.result c.try_from.ensures c.unwrap-cipher.ensures (checked-cipher work sheet checked m e) in
     record {
-      answer = said-answer work sheet checked m e c.unwrap-cipher.result (entries_in c.entries_of-entries.result) is c.entries_of-entries.ensures.value;
-      passes = said-passes work sheet checked m e c.unwrap-cipher.result (entries_in c.entries_of-entries.result) is c.entries_of-entries.ensures.value;
+      answer = said-answer work sheet checked m e c.unwrap-cipher.result (entries_in c.put_entries.new.entries) is c.put_entries.ensures.value;
+      passes = said-passes work sheet checked m e c.unwrap-cipher.result (entries_in c.put_entries.new.entries) is c.put_entries.ensures.value;
       work = c.check.ensures.work;
     }

@@ -5,7 +5,7 @@ use Rattle.sheet_format.specs.Orders.{bodies_in as bodies_named, ordered}
 use Rattle.sheet_format.specs.Sizes.{block_length}
 use Rattle.contents_laws.specs.BodyLines.{FitLine}
 use Rattle.contents.specs.Entries.{are_held, bodies_in, entries_in}
-use Rattle.contents.proofs.from_sheet.entries_of.Given as goal
+use Rattle.contents.proofs.from_sheet.put_entries.Given as goal
 
 -- the entries so far, and the bodies of the lines that are left, make up all bodies
 abbrev pub invariant-loop-item : goal.invariant-loop-item

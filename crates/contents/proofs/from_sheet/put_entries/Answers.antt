@@ -7,7 +7,7 @@ use Rattle.contents.specs.Entries.{are_held, entries_in}
 use Rattle.contents.specs.declared.entry.Entry.{Entry}
 use Rattle.contents.proofs.Held.{held-push}
 use Rattle.contents.proofs.Lines.{first-named, line-fits, line-counted, line-more}
-use Rattle.contents.proofs.from_sheet.entries_of.Goals as goal
+use Rattle.contents.proofs.from_sheet.put_entries.Goals as goal
 
 pub loop-item-preserved-in-loop-item : goal.loop-item-preserved-in-loop-item
 loop-item-preserved-in-loop-item c =
